@@ -53,7 +53,7 @@ abbrev pub isSession : ℕ → Bool
 isSession s = within 1 65535 s
 
 -- Whether a field of this kind may hold x, in a table of n rows, at a claimant that wants this session.
-unfoldable pub allows : Kind → (n : ℕ) → Terms → (want x : ℕ) → Bool
+abbrev pub allows : Kind → (n : ℕ) → Terms → (want x : ℕ) → Bool
 allows Zero n k want x = eqb x 0
 allows One n k want x = eqb x 1
 allows SomeSession n k want x = isSession x

@@ -32,7 +32,7 @@ recordOf t zero = blank
 recordOf t (suc w) = getD t w blank
 
 -- The row whose register is read.
-unfoldable pub rowRead : Register → ℕ
+abbrev pub rowRead : Register → ℕ
 rowRead Nothing = 0
 rowRead (Choosing o) = o
 rowRead (Session o) = o

@@ -1,4 +1,16 @@
-// One claimant of the layer store: its record goes in and comes back with one call done.
+// The lock's rules for one claimant: its record goes in and comes back with one call done, beside the one register value
+// that it read. Document 01 names each type and field here.
+
+mod answers;
+mod calls;
+mod check;
+mod look;
+mod steps;
+mod tests;
+
+pub use tests::conflict;
+
+// A claimant's record, in the order of a packed row. Session, Choosing and Token are shared; the rest is its own.
 pub struct Claimant {
     pub place: u8,
     pub choosing: u8,
@@ -9,19 +21,9 @@ pub struct Claimant {
     pub seen: u32,
 }
 
+// What all claimants of a table agree on, given with each call.
 pub struct Terms {
     pub ceiling: u32,
-}
-
-pub enum Answer {
-    Reached(u8),
-    TurnedAway,
-    Refused(u8),
-}
-
-pub struct Turn {
-    pub after: Claimant,
-    pub answer: Answer,
 }
 
 pub enum Call {
@@ -30,6 +32,20 @@ pub enum Call {
     Leave { who: u32 },
 }
 
+// The place reached, a turned-away take, or the number of the refusal.
+pub enum Answer {
+    Reached(u8),
+    TurnedAway,
+    Refused(u8),
+}
+
+// A record after a call, and the answer. A refused record is as it was.
+pub struct Turn {
+    pub after: Claimant,
+    pub answer: Answer,
+}
+
+// The register that a place reads, and of which row.
 pub enum Register {
     Nothing,
     Choosing(u8),
@@ -37,6 +53,7 @@ pub enum Register {
     Token(u8),
 }
 
+// What a field may hold.
 pub enum Kind {
     Zero,
     One,
@@ -47,6 +64,7 @@ pub enum Kind {
     OneToCeiling,
 }
 
+// What each field may hold at one place.
 pub struct Row {
     pub session: Kind,
     pub want: Kind,
@@ -54,8 +72,4 @@ pub struct Row {
     pub token: Kind,
     pub other: Kind,
     pub seen: Kind,
-}
-
-pub fn unused(a: Answer, k: Kind, r: Row, t: Turn, c: Call, x: Register, y: Terms) -> u8 {
-    0
 }

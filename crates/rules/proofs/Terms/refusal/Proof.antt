@@ -1,0 +1,20 @@
+use borrow.Author.Needs.{needs}
+use Rattle.rules.specs.Tests.{first}
+use Rattle.rules.proofs.Terms.refusal.Statement.{statement}
+use Rattle.rules.proofs.Terms.refusal.Tie as tie
+
+within-requires : tie.Need-within-requires
+within-requires c κs = search needs
+
+choose-requires : tie.Need-choose-requires
+choose-requires c κs = search needs
+
+choose-requires-2 : tie.Need-choose-requires-2
+choose-requires-2 c κs = search needs
+
+returns : tie.Need-returns
+unfolding first
+returns c = rw (c .choose2 .ensures, c .before .choose .ensures, c .before .before .before .within .ensures)
+
+pub refusal-spec : {M : Type 1} → statement M
+refusal-spec = tie.close (tie.spec within-requires choose-requires choose-requires-2 returns)
