@@ -1,0 +1,6 @@
+pub mod Choices
+pub mod Shapes
+pub mod Moves
+pub mod Rows
+pub mod Calls
+pub mod Keeping
