@@ -1,1 +1,7 @@
 pub mod Places
+pub mod Choices
+pub mod Shapes
+pub mod Moves
+pub mod Rows
+pub mod Calls
+pub mod Keeping
