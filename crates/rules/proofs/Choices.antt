@@ -47,7 +47,7 @@ abbrev pub Numbered : List Refusal → Type 0
 Numbered [] = Unit {0}
 Numbered (r ∷ rs) = (1 ≤ r .number) × (r .number ≤ 9) × Numbered rs
 
-none-given : (rs : List Refusal) → Numbered rs → eqb (first rs) 0 ≡ true → NoneGiven rs
+pub none-given : (rs : List Refusal) → Numbered rs → eqb (first rs) 0 ≡ true → NoneGiven rs
 unfolding first
 none-given [] p e = tt
 none-given (r ∷ rs) p e =

@@ -5,3 +5,4 @@ pub mod Moves
 pub mod Rows
 pub mod Calls
 pub mod Keeping
+pub mod Refusing

@@ -148,30 +148,23 @@ refused c r = record { after = c; answer = Refused r }
 unfoldable pub unless : (refusal : ℕ) → Claimant → Turn → Turn
 unless r c t = pick (eqb r 0) t (refused c r)
 
+-- The three calls: what each refuses, and what it does where nothing refuses it.
+abbrev pub askRefusals : (n : ℕ) → Terms → (number session : ℕ) → Claimant → List Refusal
+askRefusals n k i s c = refusals n k i (not (wellFormed n k c)) (5 when not (isSession s) ∷ 6 when not (eqb (c .place) 0) ∷ [])
+
 unfoldable pub asked : (n : ℕ) → Terms → (number session : ℕ) → Claimant → Turn
-asked n k i s c =
-    unless
-    (first
-    (refusals n k i (not (wellFormed n k c))
-    (5 when not (isSession s) ∷
-    6 when not (eqb (c .place) 0) ∷ [])))
-    c
-    (reached (placed 1 (withWant s c)))
+asked n k i s c = unless (first (askRefusals n k i s c)) c (reached (placed 1 (withWant s c)))
+
+-- A record is broken for a step also where the value read is one that no such register can hold.
+abbrev pub stepRefusals : (n : ℕ) → Terms → (number v : ℕ) → Claimant → List Refusal
+stepRefusals n k i v c =
+    refusals n k i (not (wellFormed n k c and holds (reads c) k v)) (8 when (eqb (c .place) 0 or eqb (c .place) 10) ∷ [])
 
 unfoldable pub stepTaken : (n : ℕ) → Terms → (number v : ℕ) → Claimant → Turn
-stepTaken n k i v c =
-    unless
-    (first
-    (refusals n k i (not (wellFormed n k c and holds (reads c) k v))
-    (8 when (eqb (c .place) 0 or eqb (c .place) 10) ∷ [])))
-    c
-    (stepped (placeAt (c .place)) n k i v c)
+stepTaken n k i v c = unless (first (stepRefusals n k i v c)) c (stepped (placeAt (c .place)) n k i v c)
+
+abbrev pub leaveRefusals : (n : ℕ) → Terms → (number : ℕ) → Claimant → List Refusal
+leaveRefusals n k i c = refusals n k i (not (wellFormed n k c)) (7 when not (eqb (c .place) 10) ∷ [])
 
 unfoldable pub left : (n : ℕ) → Terms → (number : ℕ) → Claimant → Turn
-left n k i c =
-    unless
-    (first
-    (refusals n k i (not (wellFormed n k c))
-    (7 when not (eqb (c .place) 10) ∷ [])))
-    c
-    (reached (placed 11 c))
+left n k i c = unless (first (leaveRefusals n k i c)) c (reached (placed 11 c))

@@ -2,11 +2,11 @@
 // that it read. Document 01 names each type and field here.
 
 mod answers;
-mod calls;
 mod check;
 mod look;
 mod steps;
 mod tests;
+mod turns;
 
 pub use tests::conflict;
 

@@ -1,55 +1,27 @@
 use borrow.Author.Needs.{needs}
+use mathlib.Core.Path.{sym, _∙_}
+use Rattle.rules.specs.Rules.{asked}
+use Rattle.rules.proofs.Refusing.{refuses, accepts}
 use Rattle.rules.proofs.Claimant.ask.Statement.{statement}
 use Rattle.rules.proofs.Claimant.ask.Tie as tie
-use Rattle.rules.proofs.Claimant.ask.Reads as reads
-use Rattle.rules.proofs.Claimant.ask.Lts as lts
-use Rattle.rules.proofs.Claimant.reached.Reads as reached-reads
-use Rattle.rules.proofs.Claimant.refused.Reads as refused-reads
-use Rattle.rules.proofs.Claimant.well_formed.Reads as well-formed-reads
-use Rattle.rules.proofs.calls.first_refusal.Reads as first-refusal-reads
-use Rattle.rules.proofs.tests.choose.Reads as choose-reads
 
--- src/calls.rt:48:23
-well-formed-requires : tie.Need-well-formed-requires
-well-formed-requires c κs = search needs
+ask-refusal-requires : tie.Need-ask-refusal-requires
+ask-refusal-requires c κs = search needs
 
--- src/calls.rt:49:43
-choose-requires : tie.Need-choose-requires
-choose-requires c κs = search needs
-
--- src/calls.rt:49:13
-choose-requires-2 : tie.Need-choose-requires-2
-choose-requires-2 c κs = search needs
-
--- src/calls.rt:50:13
-first-refusal-requires : tie.Need-first-refusal-requires
-first-refusal-requires c κs = search needs
-
--- src/calls.rt:52:13
 refused-requires : tie.Need-refused-requires
 refused-requires c κs = search needs
 
--- src/calls.rt:52:13
 returns : tie.Need-returns
-returns c = ?
+unfolding asked
+returns c = c .refused .ensures ∙ refuses (c .before .before .ask-refusal .ensures) _ _ (c .before .if1 .taken)
 
--- src/calls.rt:56:9
 reached-requires : tie.Need-reached-requires
 reached-requires c κs = search needs
 
--- src/calls.rt:45:5
 returns-2 : tie.Need-returns-2
-returns-2 c = ?
+unfolding asked
+returns-2 c = c .reached .ensures ∙ accepts (c .before .before .ask-refusal .ensures) _ _ (c .before .if1 .left)
 
 pub ask-spec : {M : Type 1} → statement M
 ask-spec =
-    tie.close
-    (tie.spec
-    well-formed-requires
-    choose-requires
-    choose-requires-2
-    first-refusal-requires
-    refused-requires
-    returns
-    reached-requires
-    returns-2)
+    tie.close (tie.spec ask-refusal-requires refused-requires returns reached-requires returns-2)

@@ -7,17 +7,21 @@ use Rattle.rules.specs.Places.{Place, placeAt}
 use Rattle.rules.specs.Rules.{readAt, reads}
 use Rattle.rules.specs.declared.Register.{Register}
 use Rattle.rules.specs.declared.Register.the-variants.{Nothing}
+use Rattle.rules.proofs.Shapes.{_&_}
 use Rattle.rules.proofs.Places.{by-place}
 use Rattle.rules.proofs.Claimant.reads.Statement.{statement}
 use Rattle.rules.proofs.Claimant.reads.Tie as tie
 
-no-other : (o p : ℕ) → (p ≢ 3) × (p ≢ 6) × (p ≢ 7) × (p ≢ 8) × (p ≢ 9) → readAt (placeAt p) o ≡ Nothing
-unfolding readAt
+-- A number that is none of the five reads nothing.
+abbrev Elsewhere : ℕ → Type 0
+Elsewhere p = (p ≢ 3) × (p ≢ 6) × (p ≢ 7) × (p ≢ 8) × (p ≢ 9)
+
+no-other : (o p : ℕ) → Elsewhere p → readAt (placeAt p) o ≡ Nothing
+unfolding readAt placeAt
 no-other o =
-    by-place (λ p x. (p ≢ 3) × (p ≢ 6) × (p ≢ 7) × (p ≢ 8) × (p ≢ 9) → readAt x o ≡ Nothing)
-    (λ h. refl) (λ h. refl) (λ h. refl) (λ h. absurd (h .0 refl)) (λ h. refl) (λ h. refl)
-    (λ h. absurd (h .1 refl)) (λ h. absurd (h .2 refl)) (λ h. absurd (h .3 refl)) (λ h. absurd (h .4 refl))
-    (λ h. refl) (λ h. refl) (λ h. refl) (λ p h. refl)
+    by-place (λ p x. Elsewhere p → readAt x o ≡ Nothing)
+    ((λ h. refl) & (λ h. refl) & (λ h. refl) & (λ h. absurd (h .0 refl)) & (λ h. refl) & (λ h. refl) & (λ h. absurd (h .1 refl)) & (λ h. absurd (h .2 refl)) & (λ h. absurd (h .3 refl)) & (λ h. absurd (h .4 refl)) & (λ h. refl) & (λ h. refl) & (λ h. refl) & tt)
+    (λ p h. refl)
 
 returns : tie.Need-returns
 unfolding reads placeAt readAt

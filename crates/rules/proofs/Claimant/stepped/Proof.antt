@@ -6,6 +6,7 @@ use Rattle.rules.specs.Places.{placeAt}
 use Rattle.rules.specs.Rules.{reached, stepped}
 use Rattle.rules.specs.declared.Claimant.{Claimant}
 use Rattle.rules.specs.declared.Terms.{Terms}
+use Rattle.rules.proofs.Shapes.{_&_}
 use Rattle.rules.proofs.Places.{by-place}
 use Rattle.rules.proofs.Claimant.stepped.Statement.{statement}
 use Rattle.rules.proofs.Claimant.stepped.Tie as tie
@@ -15,11 +16,11 @@ abbrev Elsewhere : ℕ → Type 0
 Elsewhere p = (p ≢ 1) × (p ≢ 2) × (p ≢ 3) × (p ≢ 4) × (p ≢ 5) × (p ≢ 6) × (p ≢ 7) × (p ≢ 8) × (p ≢ 9) × (p ≢ 11) × (p ≢ 12)
 
 no-step : (n : ℕ) (k : Terms) (i v : ℕ) (c : Claimant) (p : ℕ) → Elsewhere p → stepped (placeAt p) n k i v c ≡ reached c
-unfolding stepped
+unfolding stepped placeAt
 no-step n k i v c =
     by-place (λ p x. Elsewhere p → stepped x n k i v c ≡ reached c)
-    (λ h. refl) (λ h. absurd (h .0 refl)) (λ h. absurd (h .1 refl)) (λ h. absurd (h .2 refl)) (λ h. absurd (h .3 refl)) (λ h. absurd (h .4 refl)) (λ h. absurd (h .5 refl)) (λ h. absurd (h .6 refl)) (λ h. absurd (h .7 refl)) (λ h. absurd (h .8 refl))
-    (λ h. refl) (λ h. absurd (h .9 refl)) (λ h. absurd (h .10 refl)) (λ p h. refl)
+    ((λ h. refl) & (λ h. absurd (h .0 refl)) & (λ h. absurd (h .1 refl)) & (λ h. absurd (h .2 refl)) & (λ h. absurd (h .3 refl)) & (λ h. absurd (h .4 refl)) & (λ h. absurd (h .5 refl)) & (λ h. absurd (h .6 refl)) & (λ h. absurd (h .7 refl)) & (λ h. absurd (h .8 refl)) & (λ h. refl) & (λ h. absurd (h .9 refl)) & (λ h. absurd (h .10 refl)) & tt)
+    (λ p h. refl)
 
 at-place : (n : ℕ) (k : Terms) (i v : ℕ) (c : Claimant) {p q : ℕ} → p ≡ q → stepped (placeAt q) n k i v c ≡ stepped (placeAt p) n k i v c
 at-place n k i v c e = rw e

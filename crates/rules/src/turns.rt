@@ -1,6 +1,6 @@
 // The three calls on a claimant's record. Each refuses by 01's list, and a refused record comes back as it was.
 ghost use mathlib.Core.Path.{_≡_};
-ghost use Rattle.rules.specs.Rules.{openRefusals, refusals, refused, asked, stepTaken, left};
+ghost use Rattle.rules.specs.Rules.{openRefusals, refusals, refused, askRefusals, asked, stepRefusals, stepTaken, leaveRefusals, left};
 ghost use Rattle.rules.specs.Tests.{_when_, first};
 ghost use mathlib.Core.Bool.{true};
 ghost use mathlib.Core.List.{[], _∷_, _++_};
@@ -44,13 +44,33 @@ impl Claimant {
         }
     }
 
+    fn ask_refusal(self, n: usize, terms: Terms, number: u32, session: u16) -> u8
+        ensures { λ r. ⌜ r ≡ first (askRefusals n terms number session self) ⌝ }
+    {
+        let own = choose(session == 0, 5, choose(self.place != 0, 6, 0));
+        first_refusal(n, terms, number, !self.well_formed(n, terms), own)
+    }
+
+    fn step_refusal(self, n: usize, terms: Terms, number: u32, value: u32) -> u8
+        ensures { λ r. ⌜ r ≡ first (stepRefusals n terms number value self) ⌝ }
+    {
+        let sound = both(self.well_formed(n, terms), self.reads().holds(terms, value));
+        let own = choose(either(self.place == 0, self.place == 10), 8, 0);
+        first_refusal(n, terms, number, !sound, own)
+    }
+
+    fn leave_refusal(self, n: usize, terms: Terms, number: u32) -> u8
+        ensures { λ r. ⌜ r ≡ first (leaveRefusals n terms number self) ⌝ }
+    {
+        let own = choose(self.place != 10, 7, 0);
+        first_refusal(n, terms, number, !self.well_formed(n, terms), own)
+    }
+
     // Asks for a session. Touches no register, so the value is ignored.
     pub fn ask(mut self, n: usize, terms: Terms, number: u32, _value: u32, session: u16) -> Turn
         ensures { λ r. ⌜ r ≡ asked n terms number session self ⌝ }
     {
-        let broken = !self.well_formed(n, terms);
-        let own = choose(session == 0, 5, choose(self.place != 0, 6, 0));
-        let refusal = first_refusal(n, terms, number, broken, own);
+        let refusal = self.ask_refusal(n, terms, number, session);
         if refusal != 0 {
             return self.refused(refusal);
         }
@@ -63,9 +83,7 @@ impl Claimant {
     pub fn step(self, n: usize, terms: Terms, number: u32, value: u32) -> Turn
         ensures { λ r. ⌜ r ≡ stepTaken n terms number value self ⌝ }
     {
-        let broken = !both(self.well_formed(n, terms), self.reads().holds(terms, value));
-        let own = choose(either(self.place == 0, self.place == 10), 8, 0);
-        let refusal = first_refusal(n, terms, number, broken, own);
+        let refusal = self.step_refusal(n, terms, number, value);
         if refusal != 0 {
             return self.refused(refusal);
         }
@@ -76,9 +94,7 @@ impl Claimant {
     pub fn leave(mut self, n: usize, terms: Terms, number: u32, _value: u32) -> Turn
         ensures { λ r. ⌜ r ≡ left n terms number self ⌝ }
     {
-        let broken = !self.well_formed(n, terms);
-        let own = choose(self.place != 10, 7, 0);
-        let refusal = first_refusal(n, terms, number, broken, own);
+        let refusal = self.leave_refusal(n, terms, number);
         if refusal != 0 {
             return self.refused(refusal);
         }

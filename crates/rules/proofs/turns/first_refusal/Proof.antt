@@ -1,8 +1,8 @@
 use borrow.Author.Needs.{needs}
 use Rattle.rules.specs.Tests.{first}
 use Rattle.rules.specs.Rules.{refusals}
-use Rattle.rules.proofs.calls.first_refusal.Statement.{statement}
-use Rattle.rules.proofs.calls.first_refusal.Tie as tie
+use Rattle.rules.proofs.turns.first_refusal.Statement.{statement}
+use Rattle.rules.proofs.turns.first_refusal.Tie as tie
 
 within-requires : tie.Need-within-requires
 within-requires c κs = search needs
