@@ -6,3 +6,4 @@ pub mod Rows
 pub mod Calls
 pub mod Keeping
 pub mod Refusing
+pub mod Only
