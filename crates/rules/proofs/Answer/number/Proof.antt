@@ -1,3 +1,4 @@
+-- `Answer::number` meets its contract: each case by what the match tells.
 use borrow.Author.Needs.{needs}
 use Rattle.rules.proofs.Answer.number.Statement.{statement}
 use Rattle.rules.proofs.Answer.number.Tie as tie

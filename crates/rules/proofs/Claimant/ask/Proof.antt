@@ -1,3 +1,4 @@
+-- `Claimant::ask` meets its contract: refused by the first refusal, or at place 1.
 use borrow.Author.Needs.{needs}
 use mathlib.Core.Path.{sym, _∙_}
 use Rattle.rules.specs.Rules.{asked}

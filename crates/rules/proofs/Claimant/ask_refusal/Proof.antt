@@ -1,3 +1,4 @@
+-- `Claimant::ask_refusal` meets its contract: the definition's list, test by test.
 use borrow.Author.Needs.{needs}
 use native.Mathlib.Omega.{arith}
 use Rattle.rules.specs.Tests.{first}

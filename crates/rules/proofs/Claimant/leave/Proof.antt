@@ -1,3 +1,4 @@
+-- `Claimant::leave` meets its contract: refused by the first refusal, or at place 11.
 use borrow.Author.Needs.{needs}
 use mathlib.Core.Path.{sym, _∙_}
 use Rattle.rules.specs.Rules.{left}

@@ -1,3 +1,4 @@
+-- `Claimant::scan` meets its contract: the last row, or one more.
 use borrow.Author.Needs.{needs}
 use borrow.Author.Tests.{eq-eqb, ne-eqb}
 use Rattle.rules.proofs.Claimant.scan.Statement.{statement}

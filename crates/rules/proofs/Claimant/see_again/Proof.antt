@@ -1,3 +1,4 @@
+-- `Claimant::see_again` meets its contract: by the test for a conflict.
 use borrow.Author.Needs.{needs}
 use Rattle.rules.proofs.Claimant.see_again.Statement.{statement}
 use Rattle.rules.proofs.Claimant.see_again.Tie as tie

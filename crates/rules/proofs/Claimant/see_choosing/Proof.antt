@@ -1,3 +1,4 @@
+-- `Claimant::see_choosing` meets its contract.
 use borrow.Author.Needs.{needs}
 use Rattle.rules.proofs.Claimant.see_choosing.Statement.{statement}
 use Rattle.rules.proofs.Claimant.see_choosing.Tie as tie

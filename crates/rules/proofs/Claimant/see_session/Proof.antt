@@ -1,3 +1,4 @@
+-- `Claimant::see_session` meets its contract.
 use borrow.Author.Needs.{needs}
 use Rattle.rules.proofs.Claimant.see_session.Statement.{statement}
 use Rattle.rules.proofs.Claimant.see_session.Tie as tie

@@ -1,3 +1,4 @@
+-- `Claimant::see_token` meets its contract: by the test of the two tokens.
 use borrow.Author.Needs.{needs}
 use Rattle.rules.proofs.Claimant.see_token.Statement.{statement}
 use Rattle.rules.proofs.Claimant.see_token.Tie as tie

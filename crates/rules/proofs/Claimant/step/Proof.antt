@@ -1,3 +1,4 @@
+-- `Claimant::step` meets its contract: refused by the first refusal, or the step of its place.
 use borrow.Author.Needs.{needs}
 use mathlib.Core.Path.{sym, _∙_}
 use Rattle.rules.specs.Rules.{stepTaken}

@@ -1,3 +1,4 @@
+-- `Claimant::stepped` meets its contract: each number leads to its place's rule, and every other takes no step.
 use borrow.Author.Needs.{needs}
 use mathlib.Core.Path.{_≡_, refl, sym, _∙_}
 use mathlib.Core.Logic.{_≢_}

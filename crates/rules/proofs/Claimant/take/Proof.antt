@@ -1,3 +1,4 @@
+-- `Claimant::take` meets its contract: below the ceiling, or turned away.
 use borrow.Author.Needs.{needs}
 use borrow.Author.Tests.{lt-ltb, le-ltb}
 use Rattle.rules.proofs.Claimant.take.Statement.{statement}

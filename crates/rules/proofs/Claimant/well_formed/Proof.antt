@@ -1,3 +1,4 @@
+-- `Claimant::well_formed` meets its contract: a place past 12 has no row.
 use borrow.Author.Needs.{needs}
 use borrow.Author.Tests.{le-leb, lt-leb}
 use Rattle.rules.specs.Places.{wellFormed}

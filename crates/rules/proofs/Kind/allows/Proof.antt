@@ -1,3 +1,4 @@
+-- `Kind::allows` meets its contract: each kind by what the match tells.
 use borrow.Author.Needs.{needs}
 use Rattle.rules.proofs.Kind.allows.Statement.{statement}
 use Rattle.rules.proofs.Kind.allows.Tie as tie

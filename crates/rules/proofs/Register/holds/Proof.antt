@@ -1,3 +1,4 @@
+-- `Register::holds` meets its contract: each register by what the match tells.
 use borrow.Author.Needs.{needs}
 use Rattle.rules.proofs.Register.holds.Statement.{statement}
 use Rattle.rules.proofs.Register.holds.Tie as tie

@@ -1,3 +1,4 @@
+-- `Row::at` meets its contract: the table in code is the table in `specs/`.
 use borrow.Author.Needs.{needs}
 use mathlib.Core.Path.{refl}
 use Rattle.rules.specs.Places.{rows}

@@ -1,3 +1,4 @@
+-- `Row::fits` meets its contract: six fields, six tests.
 use borrow.Author.Needs.{needs}
 use Rattle.rules.specs.Places.{fits}
 use Rattle.rules.proofs.Row.fits.Statement.{statement}

@@ -1,3 +1,4 @@
+-- `Terms::refusal` meets its contract: the definition's list, test by test.
 use borrow.Author.Needs.{needs}
 use Rattle.rules.specs.Tests.{first}
 use Rattle.rules.proofs.Terms.refusal.Statement.{statement}

@@ -1,3 +1,4 @@
+-- `before` meets its contract.
 use borrow.Author.Needs.{needs}
 use Rattle.rules.specs.Rules.{before}
 use Rattle.rules.proofs.tests.before.Statement.{statement}

@@ -1,3 +1,4 @@
+-- `conflict` meets its contract.
 use borrow.Author.Needs.{needs}
 use Rattle.rules.specs.Rules.{conflict}
 use Rattle.rules.proofs.tests.conflict.Statement.{statement}
