@@ -1,0 +1,309 @@
+//! Compares the proved library with the model, byte for byte.
+//!
+//!     differential [--cases COUNT] [--seed SEED]
+//!     differential --seed SEED --case NUMBER     one case again
+//!     differential --files FILE...               these texts
+//!     differential --self-test [--seed SEED]     that faults are found
+//!
+//! A difference prints the text, both outputs and the seed, and fails; so does
+//! a run of the full number of cases that never met some kind of text or step.
+
+mod coverage;
+mod damage;
+mod faults;
+mod limits;
+mod random;
+mod schedules;
+
+use coverage::Coverage;
+use damage::{damage, Damage};
+use faults::Faulty;
+use model::report::{report_by, AsWritten, Parts};
+use random::Random;
+use schedules::{fill, lively, Writer};
+use std::process::ExitCode;
+use std::time::Instant;
+use std::{env, fs};
+
+/// How many cases a run has, and below how many it need not meet every kind.
+const CASES: u64 = 250_000;
+const ENOUGH: u64 = 100_000;
+/// How many cases the self-test gives a fault to be found in.
+const AT_ONCE: u64 = 20_000;
+
+/// Fills the row that the library writes into, to see what it leaves alone.
+const FILLER: u8 = 0xA5;
+const MARGIN: usize = 64;
+
+fn main() -> ExitCode {
+    let args: Vec<String> = env::args().skip(1).collect();
+    let has = |name: &str| args.iter().any(|arg| arg == name);
+    let number = |name: &str| {
+        let at = args.iter().position(|arg| arg == name)?;
+        Some(
+            args.get(at + 1)
+                .and_then(|arg| arg.parse().ok())
+                .unwrap_or_else(|| {
+                    panic!("{name} takes a number");
+                }),
+        )
+    };
+    let seed = number("--seed").unwrap_or(1);
+    let good = if has("--self-test") {
+        self_test(seed)
+    } else if let Some(at) = args.iter().position(|arg| arg == "--files") {
+        compare_files(&args[at + 1..])
+    } else if let Some(case) = number("--case") {
+        let mut comparison = Comparison::new(seed);
+        comparison
+            .case(&mut AsWritten, case)
+            .map_or(true, |difference| difference.print(seed))
+    } else {
+        compare(seed, number("--cases").unwrap_or(CASES))
+    };
+    if good {
+        ExitCode::SUCCESS
+    } else {
+        ExitCode::FAILURE
+    }
+}
+
+/// Two outputs that should be one.
+struct Difference {
+    case: u64,
+    what: String,
+    text: Vec<u8>,
+    model: Vec<u8>,
+    library: Vec<u8>,
+}
+
+impl Difference {
+    /// Prints all of it; false, for it is a failure.
+    fn print(&self, seed: u64) -> bool {
+        println!("DIFFERENCE: {}", self.what);
+        println!("--- text, {} bytes", self.text.len());
+        println!("{}", shown(&self.text));
+        println!("--- model, {} bytes", self.model.len());
+        println!("{}", shown(&self.model));
+        println!("--- library, {} bytes", self.library.len());
+        println!("{}", shown(&self.library));
+        let lines = |bytes: &[u8]| -> Vec<String> {
+            bytes.split(|&byte| byte == b'\n').map(shown).collect()
+        };
+        let (model, library) = (lines(&self.model), lines(&self.library));
+        for at in 0..model.len().max(library.len()) {
+            let (ours, theirs) = (model.get(at), library.get(at));
+            if ours != theirs {
+                println!(
+                    "--- first at line {}: model {ours:?}, library {theirs:?}",
+                    at + 1
+                );
+                break;
+            }
+        }
+        println!(
+            "--- seed {seed}, case {} (--seed {seed} --case {})",
+            self.case, self.case
+        );
+        false
+    }
+}
+
+/// Bytes for a person: lines as they are, odd bytes escaped.
+fn shown(bytes: &[u8]) -> String {
+    let lines: Vec<String> = bytes
+        .split(|&byte| byte == b'\n')
+        .map(|line| line.escape_ascii().to_string())
+        .collect();
+    lines.join("\n")
+}
+
+/// The cases of a seed, and what comparing them met.
+struct Comparison {
+    seed: u64,
+    limits: Vec<Vec<u8>>,
+    /// The row lent to the library, and what it is filled with before.
+    row: Vec<u8>,
+    filled: Vec<u8>,
+    out: Vec<u8>,
+    coverage: Coverage,
+    damages: [u64; Damage::ALL.len()],
+}
+
+impl Comparison {
+    fn new(seed: u64) -> Comparison {
+        Comparison {
+            seed,
+            limits: limits::texts(),
+            row: vec![FILLER; colliemist::REPORT_BYTES + MARGIN],
+            filled: vec![FILLER; colliemist::REPORT_BYTES + MARGIN],
+            out: Vec::new(),
+            coverage: Coverage::default(),
+            damages: [0; Damage::ALL.len()],
+        }
+    }
+
+    /// The text of one case: first those at the limits, then random ones.
+    fn text(&mut self, case: u64) -> Vec<u8> {
+        if let Some(text) = self.limits.get(case as usize) {
+            return text.clone();
+        }
+        let random = &mut Random::new(self.seed, case);
+        match random.below(100) {
+            0..=63 => lively(random, usize::MAX).text,
+            64..=95 => {
+                let mut text = lively(random, 12).text;
+                for _ in 0..random.pick(&[1, 1, 1, 2, 3]) {
+                    let at = random.below(Damage::ALL.len());
+                    damage(random, Damage::ALL[at], &mut text);
+                    self.damages[at] += 1;
+                }
+                text
+            }
+            96..=98 => {
+                let claimants = random.pick(&[0, 1, 63, 64, 65, 66, 255, 256, u32::MAX]);
+                let mut writer = Writer::new(claimants, random.pick(&[0, 0, 1, u32::MAX]));
+                let lines = random.below(20);
+                fill(random, &mut writer, lines);
+                writer.text
+            }
+            _ => {
+                // Long ones, and now and then a line too many.
+                let mut writer =
+                    Writer::new(random.from_to(1, 64) as u32, random.pick(&[1, 3, u32::MAX]));
+                let lines = random.from_to(2_040, 2_049);
+                fill(random, &mut writer, lines);
+                writer.text
+            }
+        }
+    }
+
+    /// Compares one case; the difference, if there is one.
+    fn case(&mut self, parts: &mut impl Parts, case: u64) -> Option<Difference> {
+        let text = self.text(case);
+        self.coverage.note(&text);
+        // A row that is too short gets nothing, and stays as it is.
+        let short = Random::new(!self.seed, case).below(64 * colliemist::REPORT_BYTES);
+        let short = (short < colliemist::REPORT_BYTES).then_some(short);
+        self.compare(parts, case, text, short)
+    }
+
+    fn compare(
+        &mut self,
+        parts: &mut impl Parts,
+        case: u64,
+        text: Vec<u8>,
+        short: Option<usize>,
+    ) -> Option<Difference> {
+        self.out.clear();
+        report_by(parts, &mut self.out, &text);
+        let mut what = None;
+        if let Some(short) = short {
+            if colliemist::report_into(&text, &mut self.row[..short]).is_some() {
+                what = Some(format!("a row of {short} bytes is too short but was taken"));
+            }
+            if self.row != self.filled {
+                what = Some(format!(
+                    "a row of {short} bytes is too short but was written to"
+                ));
+            }
+        }
+        let room = colliemist::REPORT_BYTES + case as usize % MARGIN;
+        let library = colliemist::report_into(&text, &mut self.row[..room]).unwrap_or_default();
+        let library = library.to_vec();
+        if self.row[library.len()..] != self.filled[library.len()..] {
+            what = Some(String::from("bytes past the report were written to"));
+        }
+        self.row[..library.len()].fill(FILLER);
+        if library != self.out {
+            what = Some(String::from("the reports differ"));
+        }
+        what.map(|what| {
+            self.row.fill(FILLER);
+            Difference {
+                case,
+                what,
+                text,
+                model: self.out.clone(),
+                library,
+            }
+        })
+    }
+}
+
+/// A run: `cases` cases of a seed.
+fn compare(seed: u64, cases: u64) -> bool {
+    println!("differential: seed {seed}, {cases} cases");
+    let start = Instant::now();
+    let mut comparison = Comparison::new(seed);
+    for case in 0..cases {
+        if let Some(difference) = comparison.case(&mut AsWritten, case) {
+            return difference.print(seed);
+        }
+    }
+    println!("met, in all the cases:");
+    let mut all = comparison.coverage.print();
+    println!("damages done:");
+    for (kind, count) in Damage::ALL.iter().zip(comparison.damages) {
+        println!("  {count:>10}  {kind:?}");
+        all &= count > 0;
+    }
+    println!(
+        "differential: {cases} cases, no difference, {:.1} s (seed {seed})",
+        start.elapsed().as_secs_f64()
+    );
+    if cases >= ENOUGH && !all {
+        println!("differential: FAILED: some kind was never met");
+        return false;
+    }
+    true
+}
+
+/// Compares the texts in files.
+fn compare_files(files: &[String]) -> bool {
+    let mut comparison = Comparison::new(0);
+    let mut good = !files.is_empty();
+    for file in files {
+        match fs::read(file) {
+            Ok(text) => {
+                if let Some(difference) = comparison.compare(&mut AsWritten, 0, text, None) {
+                    println!("{file}");
+                    good = difference.print(0);
+                }
+            }
+            Err(error) => {
+                println!("{file}: {error}");
+                good = false;
+            }
+        }
+    }
+    println!(
+        "differential: {} files, {}",
+        files.len(),
+        if good { "no difference" } else { "FAILED" }
+    );
+    good
+}
+
+/// Each fault in the model is found, and soon.
+fn self_test(seed: u64) -> bool {
+    let mut good = true;
+    let faults = faults::all();
+    for (fault, what) in &faults {
+        let mut comparison = Comparison::new(seed);
+        let mut faulty = Faulty::new(*fault);
+        match (0..AT_ONCE).find_map(|case| comparison.case(&mut faulty, case)) {
+            Some(found) => println!("  found at case {:>5}: {what}", found.case + 1),
+            None => {
+                println!("  NOT FOUND in {AT_ONCE} cases: {what}");
+                good = false;
+            }
+        }
+    }
+    let verdict = if good { "all found" } else { "FAILED" };
+    println!(
+        "differential --self-test: {} faults, {verdict} (seed {seed})",
+        faults.len()
+    );
+    good
+}
