@@ -293,7 +293,7 @@ fn self_test(seed: u64) -> bool {
         let mut comparison = Comparison::new(seed);
         let mut faulty = Faulty::new(*fault);
         match (0..AT_ONCE).find_map(|case| comparison.case(&mut faulty, case)) {
-            Some(found) => println!("  found at case {:>5}: {what}", found.case + 1),
+            Some(found) => println!("  found at case {:>5}: {what}", found.case),
             None => {
                 println!("  NOT FOUND in {AT_ONCE} cases: {what}");
                 good = false;
