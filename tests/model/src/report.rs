@@ -21,19 +21,15 @@ pub trait Parts {
     }
 
     fn line(&mut self, out: &mut Vec<u8>, at: usize, who: u32, record: &Claimant, answer: u8) {
-        for (label, number) in [
-            (&b"at="[..], at as u32),
-            (b" who=", who),
-            (b" place=", record.place.into()),
-            (b" session=", record.session.into()),
-            (b" raised=", record.choosing.into()),
-            (b" token=", record.token),
-            (b" answer=", answer.into()),
-        ] {
-            out.extend_from_slice(label);
-            decimal(out, number);
-        }
-        out.push(b'\n');
+        let mut line = Line::default();
+        line.add(b"at=", at as u32);
+        line.add(b" who=", who);
+        line.add(b" place=", record.place.into());
+        line.add(b" session=", record.session.into());
+        line.add(b" raised=", record.choosing.into());
+        line.add(b" token=", record.token);
+        line.add(b" answer=", answer.into());
+        line.end(out);
     }
 }
 
@@ -77,30 +73,55 @@ pub fn report_by(parts: &mut impl Parts, out: &mut Vec<u8>, text: &[u8]) {
             .unwrap_or_default();
         parts.line(out, at + 1, who, &record, answer.byte());
     }
-    out.extend_from_slice(b"end=");
-    decimal(out, case.entries as u32);
-    out.push(b'\n');
+    let mut line = Line::default();
+    line.add(b"end=", case.entries as u32);
+    line.end(out);
 }
 
 fn refused(out: &mut Vec<u8>, refusal: Refusal, line: usize) {
-    out.extend_from_slice(b"refused=");
-    decimal(out, refusal.number().into());
-    out.extend_from_slice(b" line=");
-    decimal(out, line as u32);
-    out.push(b'\n');
+    let mut printed = Line::default();
+    printed.add(b"refused=", refusal.number().into());
+    printed.add(b" line=", line as u32);
+    printed.end(out);
 }
 
-/// Appends a number in decimal.
-fn decimal(out: &mut Vec<u8>, mut number: u32) {
-    let mut digits = [0; 10];
-    let mut at = digits.len();
-    loop {
-        at -= 1;
-        digits[at] = b'0' + (number % 10) as u8;
-        number /= 10;
-        if number == 0 {
-            break;
+/// A line in the making; the longest has 46 bytes beside its seven numbers.
+struct Line {
+    bytes: [u8; 128],
+    length: usize,
+}
+
+impl Default for Line {
+    fn default() -> Line {
+        Line {
+            bytes: [0; 128],
+            length: 0,
         }
     }
-    out.extend_from_slice(&digits[at..]);
+}
+
+impl Line {
+    /// A label and then a number in decimal.
+    fn add<const L: usize>(&mut self, label: &[u8; L], number: u32) {
+        self.bytes[self.length..][..L].copy_from_slice(label);
+        self.length += L;
+        if number < 10 {
+            self.bytes[self.length] = b'0' + number as u8;
+            self.length += 1;
+            return;
+        }
+        let digits = number.ilog10() as usize + 1;
+        let mut rest = number;
+        for digit in self.bytes[self.length..][..digits].iter_mut().rev() {
+            *digit = b'0' + (rest % 10) as u8;
+            rest /= 10;
+        }
+        self.length += digits;
+    }
+
+    /// Ends the line and puts it after what `out` holds.
+    fn end(mut self, out: &mut Vec<u8>) {
+        self.bytes[self.length] = b'\n';
+        out.extend_from_slice(&self.bytes[..=self.length]);
+    }
 }
