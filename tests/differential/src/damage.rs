@@ -82,7 +82,7 @@ pub fn damage(random: &mut Random, kind: Damage, text: &mut Vec<u8>) {
         ByteDoubled => text.insert(at, text[at]),
         ByteAdded => text.insert(at, some_byte(random)),
         LineCut => {
-            let cut = random.from_to(line.0, line.1);
+            let cut = random.between(line.0, line.1);
             text.drain(cut..line.1);
         }
         LineDropped => drop(text.drain(line.0..end_of(text, line))),
@@ -120,7 +120,7 @@ pub fn damage(random: &mut Random, kind: Damage, text: &mut Vec<u8>) {
         LineFeedAdded => text.push(b'\n'),
         TextCut => text.truncate(at),
         BytesAfterTheEnd => {
-            for _ in 0..random.from_to(1, 12) {
+            for _ in 0..random.between(1, 12) {
                 let byte = some_byte(random);
                 text.push(byte);
             }
@@ -262,6 +262,6 @@ fn far(random: &mut Random) -> String {
         2 => ((1u128 << 32) + small).to_string(),
         3 => ((1u128 << 64) + small).to_string(),
         4 => (1u128 << 127).to_string(),
-        _ => "9".repeat(random.from_to(1, 40)),
+        _ => "9".repeat(random.between(1, 40)),
     }
 }

@@ -3,6 +3,7 @@
 //!     differential [--cases COUNT] [--seed SEED]
 //!     differential --seed SEED --case NUMBER     one case again
 //!     differential --files FILE...               these texts
+//!     differential --every                       every call on every small table
 //!     differential --self-test [--seed SEED]     that faults are found
 //!
 //! A difference prints the text, both outputs and the seed, and fails; so does
@@ -19,8 +20,11 @@ use coverage::Coverage;
 use damage::{damage, Damage};
 use faults::Faulty;
 use model::report::{report_by, AsWritten, Parts};
+use model::table::Call;
 use random::Random;
 use schedules::{fill, lively, Writer};
+use small::search::{turns, walked, ways, Turn};
+use small::state::Space;
 use std::process::ExitCode;
 use std::time::Instant;
 use std::{env, fs};
@@ -53,11 +57,13 @@ fn main() -> ExitCode {
         self_test(seed)
     } else if let Some(at) = args.iter().position(|arg| arg == "--files") {
         compare_files(&args[at + 1..])
+    } else if has("--every") {
+        compare_every()
     } else if let Some(case) = number("--case") {
         let mut comparison = Comparison::new(seed);
-        comparison
-            .case(&mut AsWritten, case)
-            .map_or(true, |difference| difference.print(seed))
+        let difference = comparison.case(&mut AsWritten, case);
+        println!("differential: seed {seed}, case {case}");
+        difference.is_none_or(|difference| difference.print(seed))
     } else {
         compare(seed, number("--cases").unwrap_or(CASES))
     };
@@ -170,8 +176,8 @@ impl Comparison {
             _ => {
                 // Long ones, and now and then a line too many.
                 let mut writer =
-                    Writer::new(random.from_to(1, 64) as u32, random.pick(&[1, 3, u32::MAX]));
-                let lines = random.from_to(2_040, 2_049);
+                    Writer::new(random.between(1, 64) as u32, random.pick(&[1, 3, u32::MAX]));
+                let lines = random.between(2_040, 2_049);
                 fill(random, &mut writer, lines);
                 writer.text
             }
@@ -283,6 +289,50 @@ fn compare_files(files: &[String]) -> bool {
         if good { "no difference" } else { "FAILED" }
     );
     good
+}
+
+/// Compares every call, refused ones too, on every table that two claimants
+/// reach under small ceilings and that three reach under ceiling 1.
+fn compare_every() -> bool {
+    let mut comparison = Comparison::new(0);
+    for (claimants, sessions, ceiling) in [(1, 1, 2), (2, 2, 1), (2, 2, 2), (2, 2, 3), (3, 3, 1)] {
+        let space = Space {
+            claimants,
+            sessions,
+            ceiling,
+            shortcut: None,
+        };
+        let (mut tables, mut calls, mut texts) = (0, 0, 0);
+        for way in ways(&space) {
+            tables += 1;
+            let state = walked(&space, &way);
+            let (taken, refused): (Vec<Turn>, Vec<Turn>) =
+                every_turn(&space).partition(|turn| turns(&space, &state).any(|t| t == *turn));
+            calls += taken.len() + refused.len();
+            // Refused calls change nothing, so that they all go before a taken one.
+            for turn in taken {
+                let all: Vec<Turn> = way.iter().chain(&refused).copied().chain([turn]).collect();
+                let text = small::casetexts::text(&space, &all).into_bytes();
+                texts += 1;
+                if let Some(found) = comparison.compare(&mut AsWritten, 0, text, None) {
+                    return found.print(0);
+                }
+            }
+        }
+        println!(
+            "differential --every: {claimants} claimants, {sessions} sessions, ceiling {ceiling}: \
+             {calls} calls on {tables} tables, {texts} texts, no difference"
+        );
+    }
+    true
+}
+
+/// Every call of every claimant, and of some that are none.
+fn every_turn(space: &Space) -> impl Iterator<Item = Turn> + '_ {
+    let asks = (0..=space.sessions).map(Call::Ask);
+    let calls: Vec<Call> = [Call::Step, Call::Leave].into_iter().chain(asks).collect();
+    (0..=space.claimants + 1)
+        .flat_map(move |who| calls.clone().into_iter().map(move |call| (who, call)))
 }
 
 /// Each fault in the model is found, and soon.

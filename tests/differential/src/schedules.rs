@@ -71,9 +71,9 @@ fn decimal(text: &mut Vec<u8>, number: u32) {
 /// How many claimants: mostly few, so that they meet, and 64 now and then.
 fn some_claimants(random: &mut Random) -> u32 {
     let claimants = match random.below(20) {
-        0..=11 => random.from_to(1, 4),
-        12..=16 => random.from_to(5, 16),
-        17 | 18 => random.from_to(17, 64),
+        0..=11 => random.between(1, 4),
+        12..=16 => random.between(5, 16),
+        17 | 18 => random.between(17, 64),
         _ => 64,
     };
     claimants as u32
@@ -82,7 +82,7 @@ fn some_claimants(random: &mut Random) -> u32 {
 fn some_ceiling(random: &mut Random) -> u32 {
     match random.below(10) {
         0..=5 => random.pick(&[1, 2, 3, u32::MAX]),
-        6..=8 => random.from_to(1, 12) as u32,
+        6..=8 => random.between(1, 12) as u32,
         _ => random.next() as u32 | 1,
     }
 }
@@ -91,9 +91,9 @@ fn some_sessions(random: &mut Random) -> Vec<u16> {
     let count = random.pick(&[1, 2, 2, 2, 3, 3, 5, 20]);
     (0..count)
         .map(|_| match random.below(4) {
-            0 => random.from_to(1, 65_535) as u16,
+            0 => random.between(1, 65_535) as u16,
             1 => random.pick(&[1, 255, 256, 65_534, 65_535]),
-            _ => random.from_to(1, 9) as u16,
+            _ => random.between(1, 9) as u16,
         })
         .collect()
 }
@@ -103,8 +103,8 @@ pub fn lively(random: &mut Random, most_lines: usize) -> Writer {
     let claimants = some_claimants(random);
     let mut writer = Writer::new(claimants, some_ceiling(random));
     let lines = match random.below(10) {
-        0..=8 => random.from_to(0, 40 + 10 * claimants as usize),
-        _ => random.from_to(0, MOST_DO_LINES),
+        0..=8 => random.between(0, 40 + 10 * claimants as usize),
+        _ => random.between(0, MOST_DO_LINES),
     };
     fill(random, &mut writer, lines.min(most_lines));
     writer
@@ -115,9 +115,9 @@ pub fn fill(random: &mut Random, writer: &mut Writer, lines: usize) {
     let claimants = writer.rows.len().max(1);
     let sessions = some_sessions(random);
     // Few of many claimants act, so that they get inside in the lines there are.
-    let acting = random.from_to(1, claimants.min(6));
+    let acting = random.between(1, claimants.min(6));
     let actors: Vec<u32> = (0..acting)
-        .map(|_| random.from_to(1, claimants) as u32)
+        .map(|_| random.between(1, claimants) as u32)
         .collect();
     let noise = random.pick(&[8, 16, 64, 1_000]);
     let longest = random.pick(&[1, 3, 12, 6 * claimants + 12]);
@@ -127,7 +127,7 @@ pub fn fill(random: &mut Random, writer: &mut Writer, lines: usize) {
             writer.line(who, call);
         } else {
             let who = random.pick(&actors);
-            let burst = random.from_to(1, longest);
+            let burst = random.between(1, longest);
             go_on(random, writer, who, &sessions, burst, lines);
         }
     }
@@ -138,7 +138,7 @@ fn noisy(random: &mut Random, claimants: usize, actors: &[u32]) -> (u32, Call) {
     let next = claimants as u32 + 1;
     let who = match random.below(6) {
         0 => random.pick(&[0, next, 64, 65, 128, 255]),
-        1 => random.from_to(1, claimants) as u32,
+        1 => random.between(1, claimants) as u32,
         _ => random.pick(actors),
     };
     let session = random.pick(&[0, 0, 7, 65_535]);

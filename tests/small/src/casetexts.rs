@@ -10,6 +10,7 @@ pub fn text(space: &Space, way: &[Turn]) -> String {
     let mut text = format!("claimants={}\nceiling={}\n", space.claimants, space.ceiling);
     for (who, call) in way {
         match call {
+            Call::Ask(0) => writeln!(text, "do=ask {who} 0"),
             Call::Ask(session) => writeln!(text, "do=ask {who} {}", session + 6),
             Call::Step => writeln!(text, "do=step {who}"),
             Call::Leave => writeln!(text, "do=leave {who}"),

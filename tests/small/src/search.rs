@@ -87,6 +87,8 @@ struct Reached {
     keys: Vec<u64>,
     from: Vec<u32>,
     known: Set,
+    /// Whether states that differ in their history alone are one.
+    tables_only: bool,
 }
 
 impl Reached {
@@ -97,10 +99,21 @@ impl Reached {
             keys: vec![key],
             from: vec![0],
             known: Set::from_iter([key]),
+            tables_only: false,
+        }
+    }
+
+    /// The key that a state is known by.
+    fn kept(&self, key: u64) -> u64 {
+        if self.tables_only {
+            State::key_of(State::table_of(key))
+        } else {
+            key
         }
     }
 
     fn add(&mut self, key: u64, from: usize) {
+        let key = self.kept(key);
         if self.known.insert(key) {
             self.keys.push(key);
             self.from.push(from as u32);
@@ -120,7 +133,7 @@ impl Reached {
         for &key in keys.iter().rev() {
             let (turn, next) = turns(&self.space, &state)
                 .map(|(who, call)| ((who, call), state.called(&self.space, who, call).0))
-                .find(|(_, next)| next.key(self.space.claimants) == key)
+                .find(|(_, next)| self.kept(next.key(self.space.claimants)) == key)
                 .expect("the state was reached so");
             way.push(turn);
             state = next;
@@ -149,6 +162,24 @@ pub fn walked(space: &Space, way: &[Turn]) -> State {
     way.iter().fold(State::fresh(), |state, &(who, call)| {
         state.called(space, who, call).0
     })
+}
+
+/// A shortest way to each table of a space.
+pub fn ways(space: &Space) -> impl Iterator<Item = Vec<Turn>> {
+    let n = space.claimants;
+    let mut reached = Reached {
+        tables_only: true,
+        ..Reached::fresh(*space)
+    };
+    let mut at = 0;
+    while at < reached.keys.len() {
+        let state = State::from_key(space, reached.keys[at]);
+        for (who, call) in turns(space, &state) {
+            reached.add(state.called(space, who, call).0.key(n), at);
+        }
+        at += 1;
+    }
+    (0..reached.keys.len()).map(move |at| reached.way(at))
 }
 
 /// Searches a space to its end.
