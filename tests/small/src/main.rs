@@ -2,16 +2,20 @@
 //! rules and under each of document 01's shortcuts that look harmless.
 //!
 //!     small [--texts] [--write FOLDER | --check FOLDER]
+//!     small --under SHORTCUT < TEXT
 //!
 //! `--texts` prints the shortest schedules found as case texts, `--write` puts
 //! them into a folder, and `--check` fails if the folder holds any others or
 //! its README.md lacks one. It fails, too, if the right rules break a promise.
+//! `--under` prints what a lock with that shortcut would print for a case text.
 
+use model::report::{report, report_by};
 use small::casetexts::{self, text, with_rounds};
 use small::search::{search, unseen, Finding, Outcome, Turn};
-use small::shortcuts::Shortcut;
+use small::shortcuts::{Shortcut, Taken};
 use small::state::{Space, MOST};
 use small::waiting::most_own_steps;
+use std::io::{self, Read, Write};
 use std::path::Path;
 use std::process::ExitCode;
 use std::sync::Mutex;
@@ -50,6 +54,7 @@ const SHORTCUT: [(usize, u16, u32); 6] = [
 
 /// A case text that a search found.
 struct Text {
+    shortcut: Shortcut,
     name: String,
     text: String,
 }
@@ -67,6 +72,9 @@ fn main() -> ExitCode {
         let at = args.iter().position(|arg| arg == name)?;
         args.get(at + 1).map(Path::new)
     };
+    if let Some(at) = args.iter().position(|arg| arg == "--under") {
+        return under(args.get(at + 1).map_or("", String::as_str));
+    }
     let accounts = all_accounts();
     let mut good = true;
     for account in &accounts {
@@ -95,6 +103,37 @@ fn main() -> ExitCode {
         println!("small: FAILED");
         ExitCode::FAILURE
     }
+}
+
+/// Prints the report of the text on standard input, under a shortcut.
+fn under(name: &str) -> ExitCode {
+    let Some(shortcut) = Shortcut::ALL
+        .into_iter()
+        .find(|shortcut| shortcut.name() == name)
+    else {
+        eprintln!(
+            "small: the shortcuts are {:?}",
+            Shortcut::ALL.map(Shortcut::name)
+        );
+        return ExitCode::FAILURE;
+    };
+    let mut text = Vec::new();
+    let read = io::stdin().lock().read_to_end(&mut text);
+    let printed = printed_under(shortcut, &text);
+    match read.and_then(|_| io::stdout().lock().write_all(&printed)) {
+        Ok(()) => ExitCode::SUCCESS,
+        Err(error) => {
+            eprintln!("small: {error}");
+            ExitCode::FAILURE
+        }
+    }
+}
+
+/// What a lock with a shortcut would print for a text.
+fn printed_under(shortcut: Shortcut, text: &[u8]) -> Vec<u8> {
+    let mut out = Vec::new();
+    report_by(&mut Taken::new(shortcut), &mut out, text);
+    out
 }
 
 /// The account of the right rules and then that of each shortcut, worked out
@@ -217,6 +256,7 @@ fn one_shortcut(shortcut: Shortcut) -> Account {
         printed +=
             &format!("  {what}: {claimants} claimants, ceiling {ceiling}, {note}: {name}.txt\n");
         texts.push(Text {
+            shortcut,
             name,
             text: text(space, way),
         });
@@ -284,6 +324,12 @@ fn check(folder: &Path, texts: &[&Text]) -> bool {
             Ok(text) if text == found.text => {}
             Ok(_) => complain(format!("{} is not what the search finds", path.display())),
             Err(error) => complain(format!("{}: {error}", path.display())),
+        }
+        if printed_under(found.shortcut, found.text.as_bytes()) == report(found.text.as_bytes()) {
+            complain(format!(
+                "{}.txt doesn't tell the shortcut from the right rules",
+                found.name
+            ));
         }
         if !readme.contains(&format!("{}.txt", found.name)) {
             complain(format!("README.md has no line for {}.txt", found.name));

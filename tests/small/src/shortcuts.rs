@@ -1,7 +1,8 @@
 //! Document 01's shortcuts that look harmless, each as a change of the model's
 //! stepping rules.
 
-use model::claimant::{conflict, place::*, Answer, Claimant};
+use model::claimant::{conflict, place::*, Answer, Claimant, MOST_CLAIMANTS};
+use model::report::Parts;
 use model::table::{self, Call};
 
 /// A shortcut; two of the five on document 01's list can be read in two ways,
@@ -57,6 +58,42 @@ impl Shortcut {
 /// The session a claimant remembers from 7, for the row it looks at. Only the
 /// two remembering shortcuts keep one.
 pub type Memory = Option<u16>;
+
+/// A lock with a shortcut, for a report of what it would have printed.
+pub struct Taken {
+    shortcut: Shortcut,
+    memory: [Memory; MOST_CLAIMANTS],
+}
+
+impl Taken {
+    pub fn new(shortcut: Shortcut) -> Taken {
+        Taken {
+            shortcut,
+            memory: [None; MOST_CLAIMANTS],
+        }
+    }
+}
+
+impl Parts for Taken {
+    fn open(&mut self, rows: &mut [Claimant], ceiling: u32) -> Result<(), model::Refusal> {
+        self.memory = [None; MOST_CLAIMANTS];
+        table::open(rows, ceiling)
+    }
+
+    fn apply(&mut self, rows: &mut [Claimant], ceiling: u32, entry: u32) -> Answer {
+        match table::decode(entry) {
+            Ok((who, call)) => perform(
+                Some(self.shortcut),
+                rows,
+                &mut self.memory,
+                ceiling,
+                who,
+                call,
+            ),
+            Err(refusal) => Answer::Refused(refusal),
+        }
+    }
+}
 
 /// A call under the right rules or under a shortcut; `memory` has a place for
 /// each row.
