@@ -2,161 +2,176 @@
 
 use crate::random::Random;
 
-/// The kinds of damage.
-#[derive(Clone, Copy, Debug, PartialEq, Eq)]
-pub enum Damage {
-    ByteChanged,
-    ByteDropped,
-    ByteDoubled,
-    ByteAdded,
-    LineCut,
-    LineDropped,
-    LineDoubled,
-    LinesSwapped,
-    LineEmptied,
-    EmptyLineAdded,
-    ZeroInFront,
-    SignInFront,
-    SpaceAdded,
-    CarriageReturn,
-    AllCarriageReturns,
-    LastLineFeedDropped,
-    LineFeedAdded,
-    TextCut,
-    BytesAfterTheEnd,
-    LetterCase,
-    OnePastTheRange,
-    FarPastTheRange,
-    AtTheRange,
-    NumberDropped,
-    NumberAdded,
-    OtherWord,
-}
+/// An edit of a text that has at least one byte.
+pub type Damage = fn(&mut Random, &mut Vec<u8>);
 
-use Damage::*;
-
-impl Damage {
-    pub const ALL: [Damage; 26] = [
-        ByteChanged,
-        ByteDropped,
-        ByteDoubled,
-        ByteAdded,
-        LineCut,
-        LineDropped,
-        LineDoubled,
-        LinesSwapped,
-        LineEmptied,
-        EmptyLineAdded,
-        ZeroInFront,
-        SignInFront,
-        SpaceAdded,
-        CarriageReturn,
-        AllCarriageReturns,
-        LastLineFeedDropped,
-        LineFeedAdded,
-        TextCut,
-        BytesAfterTheEnd,
-        LetterCase,
-        OnePastTheRange,
-        FarPastTheRange,
-        AtTheRange,
-        NumberDropped,
-        NumberAdded,
-        OtherWord,
-    ];
-}
+/// The kinds of damage, each with what it does.
+pub const KINDS: [(&str, Damage); 26] = [
+    ("a byte changed", |random, text| byte_changed(random, text)),
+    ("a byte dropped", byte_dropped),
+    ("a byte doubled", byte_doubled),
+    ("a byte added", byte_added),
+    ("a line cut", line_cut),
+    ("a line dropped", line_dropped),
+    ("a line doubled", line_doubled),
+    ("two lines swapped", lines_swapped),
+    ("a line emptied", line_emptied),
+    ("an empty line added", |random, text| {
+        text.insert(some_line(random, text).0, b'\n')
+    }),
+    ("a zero in front", |random, text| {
+        in_front_of_a_number(random, text, b"0")
+    }),
+    ("a sign in front", sign_in_front),
+    ("a space added", space_added),
+    ("a CR LF", |random, text| {
+        text.insert(some_line(random, text).1, b'\r')
+    }),
+    ("all lines CR LF", all_lines_cr_lf),
+    ("the last LF dropped", |_, text| {
+        text.truncate(text.len() - 1)
+    }),
+    ("an LF added", |_, text| text.push(b'\n')),
+    ("the text cut", |random, text| {
+        text.truncate(random.below(text.len()))
+    }),
+    ("bytes after the end", bytes_after_the_end),
+    ("a letter's case", |random, text| letters_case(random, text)),
+    ("one past the range", |random, text| {
+        replace_number(random, text, |most, _| (most + 1).to_string())
+    }),
+    ("far past the range", |random, text| {
+        replace_number(random, text, |_, random| far(random))
+    }),
+    ("the range's end", |random, text| {
+        replace_number(random, text, |most, _| most.to_string())
+    }),
+    ("a number dropped", |random, text| {
+        replace_number(random, text, |_, _| String::new())
+    }),
+    ("a number added", number_added),
+    ("another word", another_word),
+];
 
 /// Bytes that are likely to be mistaken for something.
 const ODD_BYTES: &[u8] = b"\0\t\n\r +-0149:/=adeilmnpst_\x7f\x80\xb0\xff";
 
-/// Damages a text in the given way.
-pub fn damage(random: &mut Random, kind: Damage, text: &mut Vec<u8>) {
+/// Lines that are not what they should be, at least not there.
+const ODD_LINES: [&[u8]; 9] = [
+    b"do=lost 1",
+    b"do=",
+    b"do=step",
+    b"do=ask 1",
+    b"do=leave",
+    b"claimants=2",
+    b"ceiling=2",
+    b"rules=2",
+    b"end=1",
+];
+
+/// Damages a text in the way of the given kind.
+pub fn damage(random: &mut Random, kind: usize, text: &mut Vec<u8>) {
     if text.is_empty() {
         text.push(b'\n');
     }
+    KINDS[kind].1(random, text);
+}
+
+fn byte_changed(random: &mut Random, text: &mut [u8]) {
     let at = random.below(text.len());
-    let line = random.pick(&lines(text));
-    match kind {
-        ByteChanged => text[at] = some_byte(random),
-        ByteDropped => drop(text.remove(at)),
-        ByteDoubled => text.insert(at, text[at]),
-        ByteAdded => text.insert(at, some_byte(random)),
-        LineCut => {
-            let cut = random.between(line.0, line.1);
-            text.drain(cut..line.1);
-        }
-        LineDropped => drop(text.drain(line.0..end_of(text, line))),
-        LineDoubled => {
-            let copy = text[line.0..end_of(text, line)].to_vec();
-            text.splice(line.0..line.0, copy);
-        }
-        LinesSwapped => swap_lines(random, text),
-        LineEmptied => drop(text.drain(line.0..line.1)),
-        EmptyLineAdded => text.insert(line.0, b'\n'),
-        ZeroInFront => in_front_of_a_number(random, text, b"0"),
-        SignInFront => {
-            let sign: &[u8] = random.pick(&[b"+", b"-"]);
-            in_front_of_a_number(random, text, sign);
-        }
-        SpaceAdded => {
-            let spaces: Vec<usize> = (0..=text.len())
-                .filter(|&at| at == text.len() || b" =\n".contains(&text[at]))
-                .collect();
-            let at = random.pick(&spaces) + random.below(2);
-            text.insert(at.min(text.len()), b' ');
-        }
-        CarriageReturn => text.insert(line.1, b'\r'),
-        AllCarriageReturns => {
-            let mut changed = Vec::new();
-            for &byte in text.iter() {
-                if byte == b'\n' {
-                    changed.push(b'\r');
-                }
-                changed.push(byte);
-            }
-            *text = changed;
-        }
-        LastLineFeedDropped => drop(text.pop()),
-        LineFeedAdded => text.push(b'\n'),
-        TextCut => text.truncate(at),
-        BytesAfterTheEnd => {
-            for _ in 0..random.between(1, 12) {
-                let byte = some_byte(random);
-                text.push(byte);
-            }
-        }
-        LetterCase => {
-            let letters: Vec<usize> = (0..text.len())
-                .filter(|&at| text[at].is_ascii_alphabetic())
-                .collect();
-            if !letters.is_empty() {
-                text[random.pick(&letters)] ^= 0x20;
-            }
-        }
-        OnePastTheRange => replace_number(random, text, |most, _| (most + 1).to_string()),
-        FarPastTheRange => replace_number(random, text, |_, random| far(random)),
-        AtTheRange => replace_number(random, text, |most, _| most.to_string()),
-        NumberDropped => replace_number(random, text, |_, _| String::new()),
-        NumberAdded => {
-            let number: &[u8] = random.pick(&[b" 0", b" 1", b" 7", b" 65535"]);
-            text.splice(line.1..line.1, number.iter().copied());
-        }
-        OtherWord => {
-            let words: [&[u8]; 9] = [
-                b"do=lost 1",
-                b"do=",
-                b"do=step",
-                b"do=ask 1",
-                b"do=leave",
-                b"claimants=2",
-                b"ceiling=2",
-                b"rules=2",
-                b"end=1",
-            ];
-            let word = random.pick(&words);
-            text.splice(line.0..line.1, word.iter().copied());
-        }
+    text[at] = some_byte(random);
+}
+
+fn byte_dropped(random: &mut Random, text: &mut Vec<u8>) {
+    text.remove(random.below(text.len()));
+}
+
+fn byte_doubled(random: &mut Random, text: &mut Vec<u8>) {
+    let at = random.below(text.len());
+    text.insert(at, text[at]);
+}
+
+fn byte_added(random: &mut Random, text: &mut Vec<u8>) {
+    let at = random.below(text.len());
+    text.insert(at, some_byte(random));
+}
+
+fn line_cut(random: &mut Random, text: &mut Vec<u8>) {
+    let line = some_line(random, text);
+    text.drain(random.between(line.0, line.1)..line.1);
+}
+
+fn line_dropped(random: &mut Random, text: &mut Vec<u8>) {
+    let line = some_line(random, text);
+    text.drain(line.0..end_of(text, line));
+}
+
+fn line_doubled(random: &mut Random, text: &mut Vec<u8>) {
+    let line = some_line(random, text);
+    let copy = text[line.0..end_of(text, line)].to_vec();
+    text.splice(line.0..line.0, copy);
+}
+
+fn lines_swapped(random: &mut Random, text: &mut Vec<u8>) {
+    let lines = lines(text);
+    let at = random.below(lines.len());
+    if let Some(&next) = lines.get(at + 1) {
+        let first = text[lines[at].0..end_of(text, lines[at])].to_vec();
+        let second_end = end_of(text, next);
+        text.splice(second_end..second_end, first);
+        text.drain(lines[at].0..lines[at].1 + 1);
     }
+}
+
+fn line_emptied(random: &mut Random, text: &mut Vec<u8>) {
+    let line = some_line(random, text);
+    text.drain(line.0..line.1);
+}
+
+fn sign_in_front(random: &mut Random, text: &mut Vec<u8>) {
+    let sign: &[u8] = random.pick(&[b"+", b"-"]);
+    in_front_of_a_number(random, text, sign);
+}
+
+/// Before or after a space, a sign of equality or a line's end.
+fn space_added(random: &mut Random, text: &mut Vec<u8>) {
+    let marks: Vec<usize> = (0..=text.len())
+        .filter(|&at| at == text.len() || b" =\n".contains(&text[at]))
+        .collect();
+    let at = random.pick(&marks) + random.below(2);
+    text.insert(at.min(text.len()), b' ');
+}
+
+fn all_lines_cr_lf(_: &mut Random, text: &mut Vec<u8>) {
+    let lines: Vec<&[u8]> = text.split(|&byte| byte == b'\n').collect();
+    *text = lines.join(&b"\r\n"[..]);
+}
+
+fn bytes_after_the_end(random: &mut Random, text: &mut Vec<u8>) {
+    for _ in 0..random.between(1, 12) {
+        let byte = some_byte(random);
+        text.push(byte);
+    }
+}
+
+fn letters_case(random: &mut Random, text: &mut [u8]) {
+    let letters: Vec<usize> = (0..text.len())
+        .filter(|&at| text[at].is_ascii_alphabetic())
+        .collect();
+    if !letters.is_empty() {
+        text[random.pick(&letters)] ^= 0x20;
+    }
+}
+
+fn number_added(random: &mut Random, text: &mut Vec<u8>) {
+    let end = some_line(random, text).1;
+    let number: &[u8] = random.pick(&[b" 0", b" 1", b" 7", b" 65535"]);
+    text.splice(end..end, number.iter().copied());
+}
+
+fn another_word(random: &mut Random, text: &mut Vec<u8>) {
+    let line = some_line(random, text);
+    text.splice(line.0..line.1, random.pick(&ODD_LINES).iter().copied());
 }
 
 fn some_byte(random: &mut Random) -> u8 {
@@ -183,20 +198,14 @@ fn lines(text: &[u8]) -> Vec<(usize, usize)> {
     lines
 }
 
+/// Some line of a text, as [`lines`] has it.
+fn some_line(random: &mut Random, text: &[u8]) -> (usize, usize) {
+    random.pick(&lines(text))
+}
+
 /// Where a line ends, its LF with it.
 fn end_of(text: &[u8], line: (usize, usize)) -> usize {
     (line.1 + 1).min(text.len())
-}
-
-fn swap_lines(random: &mut Random, text: &mut Vec<u8>) {
-    let lines = lines(text);
-    let at = random.below(lines.len());
-    if let Some(&next) = lines.get(at + 1) {
-        let first = text[lines[at].0..end_of(text, lines[at])].to_vec();
-        let second_end = end_of(text, next);
-        text.splice(second_end..second_end, first);
-        text.drain(lines[at].0..lines[at].1 + 1);
-    }
 }
 
 /// Where the runs of digits are.

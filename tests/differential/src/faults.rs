@@ -105,112 +105,19 @@ impl Faulty {
         who: u32,
         at: usize,
     ) -> Option<Answer> {
-        let n = rows.len();
-        let me = rows[at];
-        let looked_at = table::index(rows, me.other.into())
-            .map(|at| rows[at])
-            .unwrap_or_default();
-        let own_row = u32::from(me.other) == who;
-        let mut step_with = |value: u32| Some(rows[at].stepped(n, ceiling, who, value));
-        let answer = match (self.fault, me.place) {
-            (Fault::SignNotWritten, SIGN) => {
-                step_with(0);
-                rows[at].session = 0;
-                Answer::Reached(RAISE)
-            }
-            (Fault::RaiseBeforeSign, SIGN) => {
-                step_with(0);
-                (rows[at].session, rows[at].choosing) = (0, 1);
-                Answer::Reached(RAISE)
-            }
-            (Fault::RaiseBeforeSign, RAISE) => {
-                step_with(0);
-                rows[at].session = me.want;
-                Answer::Reached(SCAN)
-            }
-            (Fault::ScanKeepsLast, SCAN) => {
-                rows[at].seen = 0;
-                return Some(rows[at].stepped(n, ceiling, who, looked_at.token));
-            }
-            (Fault::ScanSkipsOwnRow, SCAN) if own_row && usize::from(me.other) < n => {
-                rows[at].other += 1;
-                let value = rows[usize::from(rows[at].other) - 1].token;
-                return Some(rows[at].stepped(n, ceiling, who, value));
-            }
-            (Fault::ScanOneRowShort, SCAN) if usize::from(me.other) + 1 == n => {
-                rows[at].other += 1;
-                return Some(rows[at].stepped(n, ceiling, who, looked_at.token));
-            }
-            (Fault::TakeNotOneMore, TAKE) if me.seen > 1 => {
-                rows[at].seen -= 1;
-                return Some(rows[at].stepped(n, ceiling, who, 0));
-            }
-            (Fault::CeilingOneLower, TAKE) if ceiling > 1 => {
-                return Some(rows[at].stepped(n, ceiling - 1, who, 0));
-            }
-            (Fault::CeilingIgnored, TAKE) => {
-                return Some(rows[at].stepped(n, u32::MAX, who, 0));
-            }
-            (Fault::TurnedAwayIsTwelve, TAKE) if me.seen == ceiling => {
-                step_with(0);
-                Answer::Reached(CLEAR_SESSION)
-            }
-            (Fault::TurnedAwayStaysRaised, TAKE) if me.seen == ceiling => {
-                step_with(0);
-                rows[at].choosing = 1;
-                Answer::TurnedAway
-            }
-            (Fault::TurnedAwayRests, TAKE) if me.seen == ceiling => {
-                rows[at] = Claimant::default();
-                Answer::TurnedAway
-            }
-            (Fault::LowerNotWritten, LOWER) => {
-                step_with(0);
-                rows[at].choosing = 1;
-                Answer::Reached(SEE_CHOOSING)
-            }
-            (Fault::ChooserNotAwaited, SEE_CHOOSING) => return step_with(0),
-            (Fault::SessionBeforeChoosing, SEE_CHOOSING) => {
-                let free = looked_at.session == 0 || looked_at.session == me.want;
-                return step_with(u32::from(!free));
-            }
-            (Fault::SessionBeforeChoosing, SEE_CHOOSERS_SESSION) => {
-                return step_with(if looked_at.choosing == 0 { 0 } else { 65_536 });
-            }
-            (Fault::HigherNumberFirst, SEE_TOKEN) if looked_at.token == me.token && !own_row => {
-                let passes = u32::from(me.other) < who;
-                return step_with(if passes { 0 } else { 1 });
-            }
-            (Fault::HigherTokenFirst, SEE_TOKEN)
-                if looked_at.token != 0 && looked_at.token != me.token =>
-            {
-                let passes = looked_at.token < me.token;
-                return step_with(if passes { 0 } else { me.token.min(1) });
-            }
-            (Fault::OwnRowPassesAtEight, SEE_TOKEN) if own_row => return step_with(0),
-            (Fault::SameSessionConflicts, SEE_HOLDERS_SESSION)
-                if !own_row && looked_at.session == me.want =>
-            {
-                return step_with(65_536);
-            }
-            (Fault::SessionClearedFirst, DROP_TOKEN) => {
-                step_with(0);
-                (rows[at].token, rows[at].session) = (me.token, 0);
-                Answer::Reached(CLEAR_SESSION)
-            }
-            (Fault::SessionClearedFirst, CLEAR_SESSION) => {
-                rows[at] = Claimant::default();
-                Answer::Reached(REST)
-            }
-            (Fault::EndKeepsSession, CLEAR_SESSION) => {
-                step_with(0);
-                rows[at].session = me.session;
-                Answer::Reached(REST)
-            }
-            (Fault::StepInsideLeaves, INSIDE) => return Some(rows[at].left()),
-            _ => return None,
+        let step = Step {
+            fault: self.fault,
+            n: rows.len(),
+            ceiling,
+            who,
+            at,
         };
-        Some(answer)
+        match rows[at].place {
+            SIGN..=SCAN => step.begins(rows),
+            TAKE | LOWER => step.takes(rows),
+            SEE_CHOOSING..=SEE_HOLDERS_SESSION => step.waits(rows),
+            _ => step.ends(rows),
+        }
     }
 
     /// Any call, if the fault changes it.
@@ -278,6 +185,142 @@ impl Faulty {
             (_, Call::Step, _) => self.faulty_step(rows, ceiling, who, at),
             _ => None,
         }
+    }
+}
+
+/// A step that may go wrong: answers none where the fault leaves it alone.
+struct Step {
+    fault: Fault,
+    n: usize,
+    ceiling: u32,
+    who: u32,
+    at: usize,
+}
+
+impl Step {
+    /// The right step, had it read `value`.
+    fn had_it_read(&self, rows: &mut [Claimant], value: u32) -> Answer {
+        rows[self.at].stepped(self.n, self.ceiling, self.who, value)
+    }
+
+    /// The right step of a place that writes, and then something else.
+    fn and_then(&self, rows: &mut [Claimant], change: impl Fn(&mut Claimant)) -> Answer {
+        let answer = self.had_it_read(rows, 0);
+        change(&mut rows[self.at]);
+        answer
+    }
+
+    /// Places 1 to 3.
+    fn begins(&self, rows: &mut [Claimant]) -> Option<Answer> {
+        let me = rows[self.at];
+        let row = usize::from(me.other);
+        Some(match (self.fault, me.place) {
+            (Fault::SignNotWritten, SIGN) => self.and_then(rows, |me| me.session = 0),
+            (Fault::RaiseBeforeSign, SIGN) => {
+                self.and_then(rows, |me| (me.session, me.choosing) = (0, 1))
+            }
+            (Fault::RaiseBeforeSign, RAISE) => self.and_then(rows, |me| me.session = me.want),
+            (Fault::ScanKeepsLast, SCAN) => {
+                rows[self.at].seen = 0;
+                self.had_it_read(rows, rows[row - 1].token)
+            }
+            (Fault::ScanSkipsOwnRow, SCAN) if row as u32 == self.who && row < self.n => {
+                rows[self.at].other += 1;
+                self.had_it_read(rows, rows[row].token)
+            }
+            (Fault::ScanOneRowShort, SCAN) if row + 1 == self.n => {
+                rows[self.at].other += 1;
+                self.had_it_read(rows, rows[row - 1].token)
+            }
+            _ => return None,
+        })
+    }
+
+    /// Places 4 and 5.
+    fn takes(&self, rows: &mut [Claimant]) -> Option<Answer> {
+        let me = rows[self.at];
+        let away = me.place == TAKE && me.seen == self.ceiling;
+        let under = |ceiling: u32| Step { ceiling, ..*self };
+        Some(match (self.fault, me.place) {
+            (Fault::TakeNotOneMore, TAKE) if me.seen > 1 => {
+                rows[self.at].seen -= 1;
+                self.had_it_read(rows, 0)
+            }
+            (Fault::CeilingOneLower, TAKE) if self.ceiling > 1 => {
+                under(self.ceiling - 1).had_it_read(rows, 0)
+            }
+            (Fault::CeilingIgnored, TAKE) => under(u32::MAX).had_it_read(rows, 0),
+            (Fault::TurnedAwayIsTwelve, _) if away => {
+                self.had_it_read(rows, 0);
+                Answer::Reached(CLEAR_SESSION)
+            }
+            (Fault::TurnedAwayStaysRaised, _) if away => self.and_then(rows, |me| me.choosing = 1),
+            (Fault::TurnedAwayRests, _) if away => {
+                self.and_then(rows, |me| *me = Claimant::default())
+            }
+            (Fault::LowerNotWritten, LOWER) => self.and_then(rows, |me| me.choosing = 1),
+            _ => return None,
+        })
+    }
+
+    /// Places 6 to 9.
+    fn waits(&self, rows: &mut [Claimant]) -> Option<Answer> {
+        /// A session that conflicts with every other.
+        const FOREIGN: u32 = 65_536;
+        /// Tokens that let pass, and that don't unless one's own is 1.
+        const NONE: u32 = 0;
+        const LOWEST: u32 = 1;
+        let me = rows[self.at];
+        let row = rows[usize::from(me.other) - 1];
+        let own_row = u32::from(me.other) == self.who;
+        let friendly = row.session == 0 || row.session == me.want;
+        let value = match (self.fault, me.place) {
+            (Fault::ChooserNotAwaited, SEE_CHOOSING) => 0,
+            (Fault::SessionBeforeChoosing, SEE_CHOOSING) => u32::from(!friendly),
+            (Fault::SessionBeforeChoosing, SEE_CHOOSERS_SESSION) => {
+                FOREIGN * u32::from(row.choosing)
+            }
+            (Fault::HigherNumberFirst, SEE_TOKEN) if row.token == me.token && !own_row => {
+                let passes = u32::from(me.other) < self.who;
+                if passes {
+                    NONE
+                } else {
+                    LOWEST
+                }
+            }
+            (Fault::HigherTokenFirst, SEE_TOKEN) if row.token != 0 && row.token != me.token => {
+                let passes = row.token < me.token;
+                if passes {
+                    NONE
+                } else {
+                    LOWEST
+                }
+            }
+            (Fault::OwnRowPassesAtEight, SEE_TOKEN) if own_row => NONE,
+            (Fault::SameSessionConflicts, SEE_HOLDERS_SESSION)
+                if !own_row && row.session == me.want =>
+            {
+                FOREIGN
+            }
+            _ => return None,
+        };
+        Some(self.had_it_read(rows, value))
+    }
+
+    /// Places 10 to 12.
+    fn ends(&self, rows: &mut [Claimant]) -> Option<Answer> {
+        let before = rows[self.at];
+        Some(match (self.fault, before.place) {
+            (Fault::StepInsideLeaves, INSIDE) => rows[self.at].left(),
+            (Fault::SessionClearedFirst, DROP_TOKEN) => {
+                self.and_then(rows, |me| (me.token, me.session) = (before.token, 0))
+            }
+            (Fault::SessionClearedFirst, CLEAR_SESSION) => self.and_then(rows, |me| me.token = 0),
+            (Fault::EndKeepsSession, CLEAR_SESSION) => {
+                self.and_then(rows, |me| me.session = before.session)
+            }
+            _ => return None,
+        })
     }
 }
 

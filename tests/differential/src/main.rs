@@ -17,7 +17,7 @@ mod random;
 mod schedules;
 
 use coverage::Coverage;
-use damage::{damage, Damage};
+use damage::damage;
 use faults::Faulty;
 use model::report::{report_by, AsWritten, Parts};
 use model::table::Call;
@@ -133,7 +133,7 @@ struct Comparison {
     filled: Vec<u8>,
     out: Vec<u8>,
     coverage: Coverage,
-    damages: [u64; Damage::ALL.len()],
+    damages: [u64; damage::KINDS.len()],
 }
 
 impl Comparison {
@@ -145,7 +145,7 @@ impl Comparison {
             filled: vec![FILLER; colliemist::REPORT_BYTES + MARGIN],
             out: Vec::new(),
             coverage: Coverage::default(),
-            damages: [0; Damage::ALL.len()],
+            damages: [0; damage::KINDS.len()],
         }
     }
 
@@ -160,8 +160,8 @@ impl Comparison {
             64..=95 => {
                 let mut text = lively(random, 12).text;
                 for _ in 0..random.pick(&[1, 1, 1, 2, 3]) {
-                    let at = random.below(Damage::ALL.len());
-                    damage(random, Damage::ALL[at], &mut text);
+                    let at = random.below(damage::KINDS.len());
+                    damage(random, at, &mut text);
                     self.damages[at] += 1;
                 }
                 text
@@ -250,8 +250,8 @@ fn compare(seed: u64, cases: u64) -> bool {
     println!("met, in all the cases:");
     let mut all = comparison.coverage.print();
     println!("damages done:");
-    for (kind, count) in Damage::ALL.iter().zip(comparison.damages) {
-        println!("  {count:>10}  {kind:?}");
+    for ((kind, _), count) in damage::KINDS.iter().zip(comparison.damages) {
+        println!("  {count:>10}  {kind}");
         all &= count > 0;
     }
     println!(
