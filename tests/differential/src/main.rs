@@ -25,7 +25,7 @@ use random::Random;
 use schedules::{fill, lively, Writer};
 use small::search::{turns, walked, ways, Turn};
 use small::state::Space;
-use std::process::ExitCode;
+use std::process::{exit, ExitCode};
 use std::time::Instant;
 use std::{env, fs};
 
@@ -41,37 +41,45 @@ const MARGIN: usize = 64;
 
 fn main() -> ExitCode {
     let args: Vec<String> = env::args().skip(1).collect();
-    let has = |name: &str| args.iter().any(|arg| arg == name);
-    let number = |name: &str| {
-        let at = args.iter().position(|arg| arg == name)?;
-        Some(
-            args.get(at + 1)
-                .and_then(|arg| arg.parse().ok())
-                .unwrap_or_else(|| {
-                    panic!("{name} takes a number");
-                }),
-        )
+    let mut words: Vec<&str> = args.iter().map(String::as_str).collect();
+    let mut number = |name: &str| {
+        let at = words.iter().position(|word| *word == name)?;
+        let number = words.get(at + 1).and_then(|word| word.parse::<u64>().ok());
+        words.drain(at..words.len().min(at + 2));
+        // No number there is as bad as a word that is not known.
+        number.or_else(usage)
     };
     let seed = number("--seed").unwrap_or(1);
-    let good = if has("--self-test") {
-        self_test(seed)
-    } else if let Some(at) = args.iter().position(|arg| arg == "--files") {
-        compare_files(&args[at + 1..])
-    } else if has("--every") {
-        compare_every()
-    } else if let Some(case) = number("--case") {
-        let mut comparison = Comparison::new(seed);
-        let difference = comparison.case(&mut AsWritten, case);
-        println!("differential: seed {seed}, case {case}");
-        difference.is_none_or(|difference| difference.print(seed))
-    } else {
-        compare(seed, number("--cases").unwrap_or(CASES))
+    let cases = number("--cases");
+    let case = number("--case");
+    let good = match (cases, case, &words[..]) {
+        (_, None, []) => compare(seed, cases.unwrap_or(CASES)),
+        (None, Some(case), []) => compare_one(seed, case),
+        (None, None, ["--self-test"]) => self_test(seed),
+        (None, None, ["--every"]) => compare_every(),
+        (None, None, ["--files", files @ ..]) => compare_files(files),
+        _ => usage(),
     };
     if good {
         ExitCode::SUCCESS
     } else {
         ExitCode::FAILURE
     }
+}
+
+/// Ends the program for words that it doesn't know.
+fn usage<T>() -> T {
+    eprintln!(
+        "differential [--seed SEED] [--cases COUNT | --case NUMBER | --self-test | --every | --files FILE...]"
+    );
+    exit(2)
+}
+
+/// One case of a seed again.
+fn compare_one(seed: u64, case: u64) -> bool {
+    let difference = Comparison::new(seed).case(&mut AsWritten, case);
+    println!("differential: seed {seed}, case {case}");
+    difference.is_none_or(|difference| difference.print(seed))
 }
 
 /// Two outputs that should be one.
@@ -266,7 +274,7 @@ fn compare(seed: u64, cases: u64) -> bool {
 }
 
 /// Compares the texts in files.
-fn compare_files(files: &[String]) -> bool {
+fn compare_files(files: &[&str]) -> bool {
     let mut comparison = Comparison::new(0);
     let mut good = !files.is_empty();
     for file in files {

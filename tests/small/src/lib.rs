@@ -6,8 +6,10 @@
 //!   packed into one number;
 //! - [`search`]: the search, and the promises it checks in every state;
 //! - [`casetexts`]: what it finds, as case texts;
-//! - [`waiting`]: how many steps a claimant needs that nobody conflicts with.
+//! - [`waiting`]: how many steps a claimant needs that nobody conflicts with;
+//! - [`accounts`]: what is searched, and the account of what was found.
 
+pub mod accounts;
 pub mod casetexts;
 pub mod search;
 pub mod shortcuts;
