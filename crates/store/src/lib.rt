@@ -71,6 +71,7 @@ fn write(rows: &mut [Claimant], number: u32, own: Claimant)
     let at = entries::row_at(rows.len(), number);
     if at < rows.len() {
         rows[at] = own;
+        return;
     }
 }
 

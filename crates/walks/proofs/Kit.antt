@@ -1,7 +1,7 @@
 -- What a walk names, under one name: the rules of the judgement, and the words that its statements are made of.
 -- Assumes nothing.
 pub use mathlib.Core.Path.{_≡_, refl, sym, _∙_, ap}
-pub use Prim.Native.Nat.{ℕ, _+_, _-_, _<_, _≤_, _^_, zero-le}
+pub use Prim.Native.Nat.{ℕ, suc, _+_, _-_, _<_, _≤_, _^_, zero-le}
 pub use native.Mathlib.Nat.{le-antisymm}
 pub use native.Mathlib.Omega.{arith}
 pub use mathlib.Core.Bool.{not}
@@ -26,5 +26,5 @@ pub use Rattle.walks.proofs.Lend.{calls-mut, renamed}
 pub use Rattle.walks.proofs.Show.{calls-seeing, calls-copying}
 pub use Rattle.walks.proofs.Arrays.{array-fits, part, calls-part}
 pub use Rattle.walks.proofs.Close.{Site, Params, Function, by-value, shared, mutable, given-up, Walk, walks, returns, site, closes, always}
-pub use Rattle.walks.proofs.Callees.{Meets, Callee, calls-to, knows}
+pub use Rattle.walks.proofs.Callees.{Defined, Meets, knows, Value, calls-to, Look, looks-mut, looks-shr, Change, changes}
 pub use Rattle.walks.proofs.Plain.{num, bool, unit, struct-of, enum-of}
