@@ -2,5 +2,8 @@ pub mod Numbers
 pub mod Truths
 pub mod Lowest
 pub mod Records
+pub mod Judging
+pub mod Entering
 pub mod Elements
 pub mod Values
+pub mod Looks
