@@ -60,10 +60,14 @@ turn-nowhere k (Ask w s) t o e = rw (nobody t w e, blank-formed (length t) k w o
 turn-nowhere k (Step w) t o e = rw (nobody t w e, blank-formed (length t) k w o e, fourth (length t) k w o e)
 turn-nowhere k (Leave w) t o e = rw (nobody t w e, blank-formed (length t) k w o e, fourth (length t) k w o e)
 
+-- A barred entry writes nothing.
+pub barred : (k : Terms) (r : ℕ) (t : Table) → written t (callerOf (Barred r)) (turnIn k (Barred r) t .after) ≡ t
+barred k r t = written-nowhere t 0 (turnIn k (Barred r) t) refl
+
 -- What an entry leaves, and what it answers.
 pub entered-is : (k : Terms) (e : Entry) (t : Table) → Sound (length t) k t → (written t (callerOf e) (turnIn k e t .after) ≡ entered k e t .table) × (turnIn k e t .answer ≡ entered k e t .answer)
 unfolding entered turnIn
-entered-is k (Barred r) t s = (written-nowhere t 0 (turnIn k (Barred r) t) refl, refl)
+entered-is k (Barred r) t s = (barred k r t, refl)
 entered-is k (Made c) t s =
     rw (turn-is k c t)
     (decide (within 1 (length t) (caller c))

@@ -4,6 +4,8 @@ pub mod Lowest
 pub mod Records
 pub mod Judging
 pub mod Entering
+pub mod Calling
 pub mod Elements
 pub mod Values
 pub mod Looks
+pub mod Enters
