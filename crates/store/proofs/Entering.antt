@@ -76,6 +76,9 @@ entered-is k (Made c) t s =
     rw (called-here s c (l .0) (l .1)) (written-here t (caller c) (turn k c t) e, refl))
     (λ e. rw (called-elsewhere s c e) (written-nowhere t (caller c) (turn k c t) e, turn-nowhere k c t (s .opens) e)))
 
+pub entered-on : {n : ℕ} {k : Terms} {t : Table} (e : Entry) → Sound n k t → (written t (callerOf e) (turnIn k e t .after) ≡ entered k e t .table) × (turnIn k e t .answer ≡ entered k e t .answer)
+entered-on {n} {k} {t} e s = entered-is k e t (rw (s .length-is) s)
+
 -- An entry keeps the table sound.
 pub sound-entered : {n : ℕ} {k : Terms} {t : Table} (e : Entry) → Sound n k t → Sound n k (entered k e t .table)
 unfolding entered

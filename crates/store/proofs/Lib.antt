@@ -5,6 +5,8 @@ pub mod Records
 pub mod Judging
 pub mod Entering
 pub mod Calling
+pub mod Filling
+pub mod Running
 pub mod Elements
 pub mod Values
 pub mod Looks
