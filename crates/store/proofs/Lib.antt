@@ -6,6 +6,7 @@ pub mod Judging
 pub mod Entering
 pub mod Calling
 pub mod Filling
+pub mod Opening
 pub mod Running
 pub mod Elements
 pub mod Values

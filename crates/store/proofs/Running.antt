@@ -2,7 +2,7 @@
 use mathlib.Core.Path.{_≡_, refl, sym, _∙_, ap}
 use mathlib.Core.Bool.{Bool, true, false, not}
 use mathlib.Core.List.{List, [], _∷_, _++_, map}
-use Prim.Native.Nat.{ℕ, suc, _+_, _<_, _≤_}
+use Prim.Native.Nat.{ℕ, suc, _+_, _*_, _<_, _≤_}
 use native.Mathlib.Numerals.{add-one}
 use native.Mathlib.Omega.{arith}
 use lib.Dec.{T, eqb, ltb}
@@ -16,7 +16,7 @@ use Rattle.rules.specs.declared.Terms.{Terms}
 use Rattle.rules.specs.declared.Answer.{Answer}
 use Rattle.store.specs.Runs.{outcomeOf, lowestBroken, runRefusal, Ran, running}
 use Rattle.store.specs.Schedules.{claimantIn, decoded, entered, ran, answered}
-use Rattle.store.specs.Trials.{five, traced}
+use Rattle.store.specs.Trials.{five, traced, trialRefusal, leftUnless}
 use Rattle.store.proofs.Entering.{sound-entered}
 use Rattle.store.proofs.Judging.{run-sound}
 use Rattle.store.proofs.Lowest.{broken-is}
@@ -85,3 +85,14 @@ module _ (k : Terms) (es row : List ℕ) (t : Table) where
   run-done h t′ row′ et er =
       let e : eqb r 0 ≡ true = eq-eqb r 0 h in
       rw (← broken-is k t, e) (et, er, refl)
+
+-- The same of a trace.
+module _ (k : Terms) (es ls : List ℕ) (t : Table) where
+  abbrev x : ℕ
+  x = trialRefusal (length t) k (length es) (length ls)
+
+  pub trace-refused : 0 < x → ls ≡ leftUnless x k es ls t
+  trace-refused h = rw (ne-eqb x 0 (omega arith))
+
+  pub trace-done : x ≡ 0 → (ls′ : List ℕ) → ls′ ≡ traced k es t ++ drop (5 * length es) ls → ls′ ≡ leftUnless x k es ls t
+  trace-done h ls′ e = rw (eq-eqb x 0 h) e

@@ -1,7 +1,7 @@
 -- What a walk names, under one name: the rules of the judgement, and the words that its statements are made of.
 -- Assumes nothing.
 pub use mathlib.Core.Path.{_≡_, refl, sym, _∙_, ap}
-pub use Prim.Native.Nat.{ℕ, suc, _+_, _-_, _<_, _≤_, _^_, zero-le}
+pub use Prim.Native.Nat.{ℕ, suc, _+_, _*_, _-_, _<_, _≤_, _^_, zero-le}
 pub use native.Mathlib.Nat.{le-antisymm}
 pub use native.Mathlib.Omega.{arith}
 pub use mathlib.Core.Bool.{not}

@@ -3,9 +3,10 @@
 use contract.Running.{tablesOf}
 use mathlib.Core.Bool.{not}
 use mathlib.Core.List.{map}
-use lib.Dec.{eqb, ltb, ltb→lt, nltb→le}
+use lib.Dec.{T, eqb, ltb, ltb→lt}
 use Rattle.walks.proofs.Kit.{_≡_, refl, sym, _∙_, ℕ, _+_, _-_, _<_, _≤_, _^_, zero-le, le-antisymm, arith, List, [], _∷_, _++_, length, getD, set, drop, length-set, w8, w32, w64, vint, Lft, Share, !, Is, RefT, now, sliceVal, slice-vals, free, has, Hold, val, shr, mut, _▸_, sets, ifs, loops, again, whiles-below, reads, writes-byte, Site, Params, Function, by-value, shared, mutable, Walk, walks, returns, site, closes, always, num, Meets, knows, calls-to, looks-mut, changes}
 use Rattle.rules.specs.Answers.{byteOf}
+use Rattle.rules.specs.Tables.{Sound}
 use Rattle.rules.specs.declared.Claimant.{Claimant}
 use Rattle.rules.specs.declared.Terms.{Terms}
 use Rattle.rules.specs.declared.Answer.{Answer}
@@ -19,6 +20,7 @@ use Rattle.store.proofs.Enters.{enter-entry}
 use Rattle.store.proofs.Filling.{Filled, none-filled, filled-on, all-filled}
 use Rattle.store.proofs.Looks.{lowest-broken}
 use Rattle.store.proofs.Running.{RanTo, ran-start, ran-step, ran-end, answered-step, answered-end, run-refused, run-opens, run-done}
+use Rattle.store.proofs.Truths.{not-refused}
 use Rattle.store.proofs.Values.{run-refusal, to-outcome, entry-decoded, answer-byte}
 use Rattle.store.proofs.run.Key.{name as #key}
 use Rattle.store.proofs.run as this
@@ -51,6 +53,10 @@ module _ {M : Type 1} (S : Site M) (κ₀ κ₁ κ₂ : Lft) (q₀ q₁ q₂ : S
 
   abbrev refusal : ℕ
   refusal = runRefusal n k (not (eqb (lowestBroken k (now x)) 0)) m places
+
+  -- what a run that is not refused begins with
+  opens : T (not (ltb 0 refusal)) → Sound n k (now x) × (m ≤ places)
+  opens h = run-opens k (now s) (now z) (now x) (not-refused refusal h)
 
   -- what is still to be answered after i entries that have led to this table
   abbrev to-come : ℕ → List Claimant → List ℕ
@@ -107,11 +113,9 @@ module _ {M : Type 1} (S : Site M) (κ₀ κ₁ κ₂ : Lft) (q₀ q₁ q₂ : S
       calls-to S ! to-outcome (refusal, tt) (known .2) (gr, tt) ((tt, tt), refl, refl) (λ go.  -- _0 = outcome(_6)
       returns ! F OutcomeE (outcomeOf refusal) (outcomeOf refusal) (now x, (tt, (tt, (now z, tt)))) _ (tt, tt, refl, refl, refl, refl) go (refl, (tt, (tt, (refl, tt)))) (run-refused k (now s) (now z) (now x) (ltb→lt 0 refusal yes))))
       (λ no.
-      let none : refusal ≡ 0 = omega (arith, nltb→le 0 refusal no) in
-      let opens = run-opens k (now s) (now z) (now x) none in
       sets ! tt (tt, record { fits = omega arith }) ▸  -- _7 = 0
       loops ! (λ (t : State). m - t .0) (λ t. free ∷ has (sliceVal (x .ptr) n) ∷ has (TermsE .val k) ∷ has (sliceVal (s .ptr) m) ∷ has (sliceVal (z .ptr) places) ∷ free ∷ free ∷ has (vint w64 (t .0)) ∷ []) (λ t. Γ (t .1) (t .2))
-      (0, now x, now z, zero-le, ran-start (now s) (now x) (opens .0), none-filled (to-come 0 (now x)) (now z), refl) (refl, (refl, (refl, (refl, (refl, tt))))) refl (λ t.
+      (0, now x, now z, zero-le, ran-start (now s) (now x) (opens no .0), none-filled (to-come 0 (now x)) (now z), refl) (refl, (refl, (refl, (refl, (refl, tt))))) refl (λ t.
       whiles-below ! (t .0) m (refl, tt, tt) fits-s  -- while _7 < schedule.len()
       (λ l.
       sets ! (tt, tt) (tt, tt) ▸  -- _18 = &mut *rows
@@ -120,13 +124,12 @@ module _ {M : Type 1} (S : Site M) (κ₀ κ₁ κ₂ : Lft) (q₀ q₁ q₂ : S
       calls-to S ! entry-decoded (getD (now s) (t .0) 0, tt) (known .3) (g, tt) ((tt, tt), refl, refl) (λ ge.  -- _20 = Entry::decoded(_22)
       changes S ! enter-entry 0 (k, (e t, tt)) refl (known .4) tt (gk, (ge, tt)) ((tt, (tt, (tt, tt))), refl, refl) (λ same ga.  -- _17 = enter(_19, _2, _20)
       calls-to S ! answer-byte (ans t, tt) (known .5) (ga, tt) ((tt, tt), refl, refl) (λ gb′.  -- _16 = _17.byte()
-      writes-byte ! (num w8) 3 0 (byteOf (ans t)) (refl, tt, tt) (tt, refl) (omega (arith, l, opens .1, t .6)) gb′ ▸  -- answers[_7] = _16
-      again ! (next t l (opens .1)) (omega arith) (tt, tt, record { fits = omega arith }) (tt, record { fits = omega arith }) (refl, (refl, (refl, (refl, (refl, tt))))) refl)))))  -- _7 = _7 + 1
+      writes-byte ! (num w8) 3 0 (byteOf (ans t)) (refl, tt, tt) (tt, refl) (omega (arith, l, opens no .1, t .6)) gb′ ▸  -- answers[_7] = _16
+      again ! (next t l (opens no .1)) (omega arith) (tt, tt, record { fits = omega arith }) (tt, record { fits = omega arith }) (refl, (refl, (refl, (refl, (refl, tt))))) refl)))))  -- _7 = _7 + 1
       (λ le.
-      let all : t .0 ≡ m = le-antisymm (t .3) le in
       calls-to S ! to-outcome (0, tt) (known .2) ((refl, omega arith), tt) ((tt, tt), refl, refl) (λ go.  -- _0 = outcome(0)
       returns ! F OutcomeE (outcomeOf 0) (outcomeOf 0) (t .1, (tt, (tt, (t .2, tt)))) _ (tt, tt, refl, refl, refl, refl) go (t .4 .sound .length-is, (tt, (tt, (t .6, tt))))
-      (run-done k (now s) (now z) (now x) none (t .1) (t .2) (ran-end (now s) (now x) (t .4) all) (answers-end t all))))))))
+      (run-done k (now s) (now z) (now x) (not-refused refusal no) (t .1) (t .2) (ran-end (now s) (now x) (t .4) (le-antisymm (t .3) le)) (answers-end t (le-antisymm (t .3) le)))))))))
 
 pub run-spec : {M : Type 1} → stated.statement M
 unfolding code.routine tablesOf
