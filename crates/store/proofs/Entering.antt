@@ -44,21 +44,22 @@ written-nowhere : (t : Table) (w : ℕ) (r : Turn) → within 1 (length t) w ≡
 unfolding written rowAt
 written-nowhere t w r e = rw e (set-out t (length t) (r .after) (omega arith))
 
+-- A blank record is well-formed, in any table and under any terms.
+pub blank-formed : (n : ℕ) (k : Terms) → wellFormed n k blank ≡ true
+unfolding wellFormed rows fits
+blank-formed n k = refl
+
 -- A claimant that has no row has a blank record, and its number is the first refusal.
 module _ (n : ℕ) (k : Terms) (w : ℕ) (o : Opens n k) (e : within 1 n w ≡ false) where
   fourth : (own : List Refusal) → first (refusals n k w false own) ≡ 4
   unfolding refusals first
   fourth own = rw (within-holds 1 64 n (o .some-row) (o .rows), ne-eqb (k .ceiling) 0 (omega (arith, o .ceiling-set)), e)
 
-  blank-formed : wellFormed n k blank ≡ true
-  unfolding wellFormed rows fits
-  blank-formed = refl
-
 turn-nowhere : (k : Terms) (c : Call) (t : Table) → Opens (length t) k → within 1 (length t) (caller c) ≡ false → turn k c t .answer ≡ Refused 4
 unfolding turn caller asked stepTaken left unless reads readAt placeAt
-turn-nowhere k (Ask w s) t o e = rw (nobody t w e, blank-formed (length t) k w o e, fourth (length t) k w o e)
-turn-nowhere k (Step w) t o e = rw (nobody t w e, blank-formed (length t) k w o e, fourth (length t) k w o e)
-turn-nowhere k (Leave w) t o e = rw (nobody t w e, blank-formed (length t) k w o e, fourth (length t) k w o e)
+turn-nowhere k (Ask w s) t o e = rw (nobody t w e, blank-formed (length t) k, fourth (length t) k w o e)
+turn-nowhere k (Step w) t o e = rw (nobody t w e, blank-formed (length t) k, fourth (length t) k w o e)
+turn-nowhere k (Leave w) t o e = rw (nobody t w e, blank-formed (length t) k, fourth (length t) k w o e)
 
 -- A barred entry writes nothing.
 pub barred : (k : Terms) (r : ℕ) (t : Table) → written t (callerOf (Barred r)) (turnIn k (Barred r) t .after) ≡ t

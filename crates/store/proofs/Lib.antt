@@ -8,6 +8,7 @@ pub mod Calling
 pub mod Filling
 pub mod Opening
 pub mod Running
+pub mod Trying
 pub mod Elements
 pub mod Values
 pub mod Looks
