@@ -1,0 +1,15 @@
+pub mod Numbers
+pub mod Truths
+pub mod Lowest
+pub mod Records
+pub mod Judging
+pub mod Entering
+pub mod Calling
+pub mod Filling
+pub mod Opening
+pub mod Running
+pub mod Trying
+pub mod Elements
+pub mod Values
+pub mod Looks
+pub mod Enters
