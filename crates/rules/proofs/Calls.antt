@@ -65,7 +65,6 @@ unfolding refusals first
 first-own own o a b e = let h = none-shared o a b e in rw (h .0, h .1 .0, h .1 .1 .0, h .1 .1 .1 .0)
 
 value-holds : (k : Terms) (r : Register) (d : Claimant) → Bounds k d → holds r k (valueIn r d) ≡ true
-unfolding holds valueIn
 value-holds k Nothing d b = refl
 value-holds k (Choosing o) d b = le-leb (d .choosing) 1 (b .choosing)
 value-holds k (Session o) d b = le-leb (d .session) 65535 (b .session)
@@ -73,7 +72,7 @@ value-holds k (Token o) d b = le-leb (d .token) (k .ceiling) (b .token)
 
 module _ (n : ℕ) (k : Terms) (w : ℕ) (at : ℕ → Claimant) (c : Claimant) (o : Opens n k) (a : 1 ≤ w) (b : w ≤ n) (f : Formed n k c) where
   ask-turned : (s : ℕ) → Turned n k at (Ask w s) c (asked n k w s c)
-  unfolding asked unless caller numberOf
+  unfolding asked unless caller
   ask-turned s =
       let own = 5 when not (isSession s) ∷ 6 when not (eqb (c .place) 0) ∷ [] in
       rw (first-own own o a b (ap not (well-formed f)))
@@ -110,7 +109,7 @@ module _ (n : ℕ) (k : Terms) (w : ℕ) (at : ℕ → Claimant) (c : Claimant) 
       (first own) (first-small own (omega arith))))
 
   leave-turned : Turned n k at (Leave w) c (left n k w c)
-  unfolding left unless caller numberOf
+  unfolding left unless caller
   leave-turned =
       let own = 7 when not (eqb (c .place) 10) ∷ [] in
       rw (first-own own o a b (ap not (well-formed f)))
@@ -194,7 +193,6 @@ module _ {n : ℕ} {k : Terms} {t : Table} (s : Sound n k t) (c : Call) (a : 1 �
   accepted h = rw (called-here s c a b) (begun-turn h (turned s c a b))
 
 turn-small : {n : ℕ} {k : Terms} {at : ℕ → Claimant} {c : Call} {d : Claimant} {r : Turn} → Turned n k at c d r → numberOf (r .answer) ≤ 41
-unfolding numberOf
 turn-small (refused h x l) = omega arith
 turn-small (moved h m l) = omega arith
 
@@ -226,9 +224,7 @@ module _ (k : Terms) (c : Call) (t : Table) where
       by-turn (λ d. length (d .table) ≡ length t) (λ s a b. length-set t (caller c - 1) (turn k c t .after)) (λ r l. refl)
 
   pub answer-small : numberOf (called k c t .answer) ≤ 41
-  unfolding numberOf
   answer-small = by-turn (λ d. numberOf (d .answer) ≤ 41) (λ s a b. turn-small (turned s c a b)) (λ r l. omega arith)
 
   pub answer-byte : byteOf (called k c t .answer) ≡ numberOf (called k c t .answer)
-  unfolding byteOf
   answer-byte = omega (arith, answer-small)

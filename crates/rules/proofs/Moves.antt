@@ -146,7 +146,6 @@ module _ (n : ℕ) (k : Terms) (i : ℕ) (at : ℕ → Claimant) where
   not-ahead t v o e = omega (arith, eqb-false v 0 (neither (eqb v 0) (before t i v o) e .0))
 
   to : {c c′ : Claimant} → Move n k i at c c′ → c′ .place ≤ 31 → Taken n k i at c (reached c′)
-  unfolding numberOf
   to m h = record { move = m; small = h }
 
   passing : (c : Claimant) {p : ℕ} → Passes at i (c .token) (c .want) (c .other) p → Taken n k i at (placed p c) (reached (passed n (placed p c)))
@@ -161,7 +160,7 @@ module _ (n : ℕ) (k : Terms) (i : ℕ) (at : ℕ → Claimant) where
 
   -- The places 1 to 9, and 11 and 12, in their order.
   to-the-inside : (c : Claimant) → Each (λ p. StepTaken (placed p c)) 1 9
-  unfolding placeAt reads readAt valueIn rowRead stepped passed numberOf
+  unfolding placeAt reads readAt stepped passed
   to-the-inside c =
       let o = c .other in
       let m = c .seen in
@@ -193,7 +192,7 @@ module _ (n : ℕ) (k : Terms) (i : ℕ) (at : ℕ → Claimant) where
       & tt
 
   to-rest : (c : Claimant) → Each (λ p. StepTaken (placed p c)) 11 2
-  unfolding placeAt reads readAt valueIn rowRead stepped numberOf
+  unfolding placeAt reads readAt stepped
   to-rest c = to (closes drops-token) (omega arith) & to (closes drops-session) (omega arith) & tt
 
   pub step-taken : (c : Claimant) → c .place ≤ 12 → c .place ≢ 0 → c .place ≢ 10
