@@ -26,8 +26,8 @@ use Rattle.rules.specs.declared.Register.the-variants.{Nothing, Choosing
 use Rattle.rules.proofs.Choices.{decide, both, neither, within-true, within-holds, Numbered, NoneGiven, none-refuses, judged, first-small}
 use Rattle.rules.proofs.Shapes.{Formed, well-formed, Bounds, _&_, between}
 use Rattle.rules.proofs.Moves.{Move, step-taken}
-use Rattle.rules.proofs.Moves.Move.{asks, closes}
-use Rattle.rules.proofs.Moves.Closes.{leaves}
+use Rattle.rules.proofs.Moves.Move.{edge}
+use Rattle.rules.proofs.Moves.Edge.{asks, leaves}
 use Rattle.rules.proofs.Rows.{own-row, other-row, same-record, AllFormed, rows-formed, any-bounds}
 
 -- Where each call begins: an ask at rest, for a session; a leave inside; a step anywhere else.
@@ -82,7 +82,7 @@ module _ (n : ℕ) (k : Terms) (w : ℕ) (at : ℕ → Claimant) (c : Claimant) 
       let v = within-true 1 65535 s (not-false (isSession s) (h .0)) in
       let p = eqb-true (c .place) 0 (not-false (eqb (c .place) 0) (h .1 .0)) in
       moved (p, v .0, v .1)
-      (between (λ d. Move n k w at d (placed 1 (withWant s d))) c 0 1 (omega arith) (omega arith) (asks v & tt))
+      (between (λ d. Move n k w at d (placed 1 (withWant s d))) c 0 1 (omega arith) (omega arith) (edge (asks v) & tt))
       (omega arith))
       (λ h.
       refused (λ g. h (ap not (within-holds 1 65535 s (g .1) (g .2)), (ap not (eq-eqb (c .place) 0 (g .0)), tt)))
@@ -118,7 +118,7 @@ module _ (n : ℕ) (k : Terms) (w : ℕ) (at : ℕ → Claimant) (c : Claimant) 
       (λ h.
       let p = eqb-true (c .place) 10 (not-false (eqb (c .place) 10) (h .0)) in
       moved p
-      (between (λ d. Move n k w at d (placed 11 d)) c 10 1 (omega arith) (omega arith) (closes leaves & tt))
+      (between (λ d. Move n k w at d (placed 11 d)) c 10 1 (omega arith) (omega arith) (edge leaves & tt))
       (omega arith))
       (λ h. refused (λ g. h (ap not (eq-eqb (c .place) 10 g), tt)) (first own) (first-small own (omega arith))))
 
