@@ -1,0 +1,4 @@
+pub mod Awareness
+pub mod Passing
+pub mod Exclusion
+pub mod Lateness
