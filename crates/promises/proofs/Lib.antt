@@ -2,3 +2,5 @@ pub mod Awareness
 pub mod Passing
 pub mod Exclusion
 pub mod Lateness
+pub mod Steps
+pub mod Overtaking
