@@ -12,7 +12,7 @@ use Rattle.rules.specs.declared.Terms.{Terms}
 use Rattle.rules.specs.declared.Call.{Call}
 use Rattle.rules.proofs.Choices.{decide, Conflict, Before}
 use Rattle.rules.proofs.Shapes.{Registers, registers}
-use Rattle.rules.proofs.Moves.{Move, Walk, Passes, Onward, lingers, clears-from, passes-from, edge-to, chosen, walked}
+use Rattle.rules.proofs.Moves.{Move, Walk, Passes, Onward, lingers, clears-from, passes-from, edged, chosen, walked}
 use Rattle.rules.proofs.Moves.Move.{edge, choice, walk}
 use Rattle.rules.proofs.Moves.Walk.{lowers, stays, clears, passes}
 use Rattle.rules.proofs.Moves.Passes.{by-token, by-session}
@@ -86,8 +86,8 @@ module _ (n i j : ℕ) (at : ℕ → Claimant) (i-low : 1 ≤ i) (i-high : i ≤
   lags : {k : Terms} {d d′ : Claimant} → Move n k j at d d′ → Late i (at i) d → Lags i (at i) d d′
   lags (edge y) f =
       record {
-        late = λ x. apart (λ h. omega (arith, edge-to y h));
-        outside = λ h g. absurd (omega (arith, edge-to y (omega arith)));
+        late = λ x. apart (λ h. omega (arith, edged y .to h));
+        outside = λ h g. absurd (omega (arith, edged y .to (omega arith)));
       }
   lags (choice y) f =
       record {
@@ -105,7 +105,7 @@ module _ (n i j : ℕ) (at : ℕ → Claimant) (i-low : 1 ≤ i) (i-high : i ≤
 -- The waiting claimant keeps its session and its token while it waits.
 keeps : {n : ℕ} {k : Terms} {i : ℕ} {at : ℕ → Claimant} {c c′ : Claimant} → Move n k i at c c′ → Waiting c′
     → (c′ .want ≡ c .want) × (c′ .token ≡ c .token)
-keeps (edge y) h = absurd (omega (arith, edge-to y (omega arith)))
+keeps (edge y) h = absurd (omega (arith, edged y .to (omega arith)))
 keeps (choice y) h = absurd (omega (arith, chosen y .to))
 keeps (walk y) h = (walked y .want-kept, walked y .token-kept)
 

@@ -4,3 +4,4 @@ pub mod Exclusion
 pub mod Lateness
 pub mod Steps
 pub mod Overtaking
+pub mod Waiting

@@ -10,7 +10,7 @@ use Rattle.rules.specs.declared.Claimant.{Claimant}
 use Rattle.rules.specs.declared.Terms.{Terms}
 use Rattle.rules.proofs.Choices.{decide, Conflict, Before}
 use Rattle.rules.proofs.Shapes.{Registers}
-use Rattle.rules.proofs.Moves.{Move, Walk, Clears, Passes, Onward, lingers, clears-from, passes-from, edge-to, Chosen, chosen, Walked, walked}
+use Rattle.rules.proofs.Moves.{Move, Walk, Clears, Passes, Onward, lingers, clears-from, passes-from, edged, Chosen, chosen, Walked, walked}
 use Rattle.rules.proofs.Moves.Move.{edge, choice, walk}
 use Rattle.rules.proofs.Moves.Walk.{lowers, stays, clears, passes}
 use Rattle.rules.proofs.Moves.Clears.{no-chooser, no-conflict}
@@ -118,7 +118,7 @@ module _ (n i j : ℕ) (at : ℕ → Claimant) (i-low : 1 ≤ i) (i-high : i ≤
   finds-above r (by-session u) e x y z = absurd (no-peer r u e x (omega arith) z)
 
   pub forward : {k : Terms} {c c′ : Claimant} → Move n k i at c c′ → Registers (at j) → Passing i j c (at j) → Passing i j c′ (at j)
-  forward (edge y) r f = not-begun (λ h. omega (arith, edge-to y (omega (arith, h .low)), h .high))
+  forward (edge y) r f = not-begun (λ h. omega (arith, edged y .to (omega (arith, h .low)), h .high))
   forward (choice y) r f = not-begun (λ h. omega (arith, chosen y .to, h .low))
   forward (walk lowers) r f = not-begun (λ h. omega (arith, h .row (omega arith)))
   forward (walk (stays y)) r f = at-row (lingers y .from) (lingers y .to .1) (lingers y .early) f
@@ -143,6 +143,6 @@ module _ (n i j : ℕ) (at : ℕ → Claimant) (i-low : 1 ≤ i) (i-high : i ≤
       }
 
   pub backward : {k : Terms} {d d′ : Claimant} → Move n k j at d d′ → Passing i j (at i) d → Passing i j (at i) d′
-  backward (edge y) f = aside (edge-to y)
+  backward (edge y) f = aside (edged y .to)
   backward (choice y) f = choosing (chosen y) (stays-aware n i at i-low i-high y) f
   backward (walk y) f = along (walked y) f

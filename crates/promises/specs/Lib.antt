@@ -1,2 +1,3 @@
 pub mod Sequences
 pub mod Fairness
+pub mod Waiting

@@ -91,13 +91,18 @@ passes-from (by-token u) = omega arith
 passes-from (by-session u) = omega arith
 
 -- The same of the kinds of move, and what they keep.
-pub edge-to : {k : Terms} {c c′ : Claimant} → Edge k c c′ → 3 ≤ c′ .place → 11 ≤ c′ .place
-edge-to (asks u) = omega arith
-edge-to signs = omega arith
-edge-to (turned-away u) = omega arith
-edge-to leaves = omega arith
-edge-to drops-token = omega arith
-edge-to drops-session = omega arith
+pub record Edged (c c′ : Claimant) : Type 0 where
+  pub to : 3 ≤ c′ .place → 11 ≤ c′ .place
+  pub closing : c .place ≡ 11 → c′ .place ≡ 12
+  pub closed : c .place ≡ 12 → c′ .place ≡ 0
+
+pub edged : {k : Terms} {c c′ : Claimant} → Edge k c c′ → Edged c c′
+edged (asks u) = omega arith
+edged signs = omega arith
+edged (turned-away u) = omega arith
+edged leaves = omega arith
+edged drops-token = omega arith
+edged drops-session = omega arith
 
 pub record Chosen (c c′ : Claimant) : Type 0 where
   pub from : (2 ≤ c .place) × (c .place ≤ 4)
