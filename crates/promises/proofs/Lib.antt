@@ -5,3 +5,5 @@ pub mod Lateness
 pub mod Steps
 pub mod Overtaking
 pub mod Waiting
+pub mod Alone
+pub mod Leaving

@@ -93,6 +93,7 @@ passes-from (by-session u) = omega arith
 -- The same of the kinds of move, and what they keep.
 pub record Edged (c c′ : Claimant) : Type 0 where
   pub to : 3 ≤ c′ .place → 11 ≤ c′ .place
+  pub leaving : c .place ≡ 10 → c′ .place ≡ 11
   pub closing : c .place ≡ 11 → c′ .place ≡ 12
   pub closed : c .place ≡ 12 → c′ .place ≡ 0
 
