@@ -7,3 +7,4 @@ pub mod Overtaking
 pub mod Waiting
 pub mod Alone
 pub mod Leaving
+pub mod OneRegister

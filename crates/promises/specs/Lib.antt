@@ -1,3 +1,4 @@
 pub mod Sequences
 pub mod Fairness
 pub mod Waiting
+pub mod OneRegister
