@@ -4,6 +4,8 @@ pub mod Exclusion
 pub mod Lateness
 pub mod Steps
 pub mod Overtaking
+pub mod Computing
+pub mod Witnesses
 pub mod Waiting
 pub mod Alone
 pub mod Leaving
