@@ -1,17 +1,16 @@
 -- A step reads or writes one register, and nothing else of the table matters to it or is changed by it.
 use mathlib.Core.Path.{_≡_, refl, sym, ap}
 use mathlib.Core.Bool.{Bool, true, false, not}
-use mathlib.Core.List.{List, [], _∷_}
 use mathlib.Core.Logic.{_≢_}
 use Prim.Native.Nat.{ℕ, _≤_}
 use native.Mathlib.Omega.{arith}
 use lib.Dec.{eqb, leb, ltb}
 use borrow.Author.Tests.{leb-true, leb-false}
-use Rattle.rules.specs.Tests.{_and_, _or_, _when_, first}
+use Rattle.rules.specs.Tests.{_or_, first}
 use Rattle.rules.specs.Records.{placed, withWant}
-use Rattle.rules.specs.Places.{Place, placeAt, wellFormed}
+use Rattle.rules.specs.Places.{Place, placeAt}
 use Rattle.rules.specs.Places.Place.{rest, sign, raise, scan, take, lower, see-choosing, see-session, see-token, see-again, inside, drop-token, drop-session, nowhere}
-use Rattle.rules.specs.Rules.{conflict, before, reads, readAt, holds, passed, reached, stepped, unless, asked, stepTaken, left, refusals}
+use Rattle.rules.specs.Rules.{conflict, before, reads, readAt, holds, passed, reached, stepped, unless, asked, stepRefusals, stepTaken, left}
 use Rattle.rules.specs.Tables.{turn}
 use Rattle.rules.specs.declared.Claimant.{Claimant}
 use Rattle.rules.specs.declared.Terms.{Terms}
@@ -71,8 +70,7 @@ acts n k i v v′ nowhere c = record { writes-it = refl; ignores = λ e. refl }
 pub writes-one : WritesOne
 unfolding WritesOne stepTaken unless writes
 writes-one n k i v c =
-    let rs = refusals n k i (not (wellFormed n k c and holds (reads c) k v)) (8 when (eqb (c .place) 0 or eqb (c .place) 10) ∷ []) in
-    decide (eqb (first rs) 0)
+    decide (eqb (first (stepRefusals n k i v c)) 0)
     (λ e. rw e (λ a. acts n k i v v (placeAt (c .place)) c .writes-it))
     (λ e. rw e (λ a. absurd a))
 
