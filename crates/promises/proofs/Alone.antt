@@ -28,7 +28,7 @@ use Rattle.rules.proofs.Rows.{has-number, beyond, rows-formed}
 use Rattle.rules.proofs.Calls.{accepted}
 use Rattle.rules.proofs.Keeping.{sound-called}
 use Rattle.promises.specs.Sequences.{placeOf}
-use Rattle.promises.specs.Waiting.{InsideAlone}
+use Rattle.promises.specs.Waiting.{loneSteps, InsideAlone}
 use Rattle.promises.proofs.Steps.{unmoved}
 
 -- Steps to the inside, by place from 0 on: a row takes two and the own row three ..
@@ -104,11 +104,10 @@ module _ (n : ℕ) (k : Terms) (i m : ℕ) (at : ℕ → Claimant) (i-low : 1 �
 -- It is inside just when no step is left.
 at-end : {n : ℕ} {k : Terms} {i m : ℕ} (c : Claimant) → 1 ≤ i → i ≤ n → Formed n k c → Exactly n i m c → c .place ≡ 10 ↔ m ≡ 0
 unfolding rows
-at-end {n} {k} {i} {m} c l h f g =
-    (
-      between (λ c. Formed n k c → Exactly n i m c → c .place ≡ 10 → m ≡ 0) c 1 10 (g .low) (omega (arith, g .high)) (omega arith) f g,
-      between (λ c. Formed n k c → Exactly n i m c → m ≡ 0 → c .place ≡ 10) c 1 10 (g .low) (omega (arith, g .high)) (omega arith) f g,
-    )
+at-end {n} {k} {i} {m} c l h f g = (
+  between (λ c. Formed n k c → Exactly n i m c → c .place ≡ 10 → m ≡ 0) c 1 10 (g .low) (omega (arith, g .high)) (omega arith) f g,
+  between (λ c. Formed n k c → Exactly n i m c → m ≡ 0 → c .place ≡ 10) c 1 10 (g .low) (omega (arith, g .high)) (omega arith) f g,
+)
 
 module _ (n : ℕ) (k : Terms) (i : ℕ) (i-low : 1 ≤ i) (i-high : i ≤ n) where
   -- What holds before each step of a claimant that has m to make.
@@ -175,11 +174,11 @@ unfolding InsideAlone rows
 inside-alone n k t i s p rest m =
     let h = has-number t i (omega arith) in
     let b : i ≤ n = omega (arith, h .1, s .length-is) in
-    inside-at n k i (h .0) b m (3 * n + 5) t
+    inside-at n k i (h .0) b m (loneSteps n) t
     (record {
       sound = s;
       exactly =
-          between (λ c. Formed n k c → Exactly n i (3 * n + 5) c) (recordOf t i) 1 1 (omega arith) (omega arith)
+          between (λ c. Formed n k c → Exactly n i (loneSteps n) c) (recordOf t i) 1 1 (omega arith) (omega arith)
           (omega arith) (rows-formed s i (h .0) b);
       others = λ j d. blank-of j s (rest j d);
     })

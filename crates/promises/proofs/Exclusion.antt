@@ -77,6 +77,6 @@ exclusion n k o calls i j p q =
     decide (atOdds t i j)
     (λ e.
     absurd
-    (not-both (fair-after calls (opened-sound n k o) (fair-opened n)) i j (a .0) (omega arith) (b .0) (omega arith) p q
+    (not-both (fair-after calls (opened-sound n k o) (fair-opened n)) i j (a .0) (omega arith) (b .0) (omega arith) (omega arith) (omega arith)
     (rw (f, g) at (conflict-true (recordOf t i .session) (recordOf t j .session) e))))
     (λ e. e)

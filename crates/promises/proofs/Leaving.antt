@@ -126,4 +126,6 @@ module _ (n : ℕ) (k : Terms) (i : ℕ) where
 pub back-to-rest : BackToRest
 unfolding BackToRest caller
 back-to-rest n k calls t i s p h =
-    rests n k i calls (called k (Leave i) t .table) (sound-called (Leave i) s) token-left (moved-on s (Leave i) (omega arith) p .leaving p) h
+    let out = moved-on s (Leave i) (omega arith) p .leaving p in
+    let g = rests n k i calls (called k (Leave i) t .table) (sound-called (Leave i) s) token-left out h in
+    ((λ a. omega (arith, g .0 a)), λ a. g .1 (omega arith))

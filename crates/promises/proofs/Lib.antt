@@ -6,7 +6,7 @@ pub mod Steps
 pub mod Overtaking
 pub mod Computing
 pub mod Witnesses
+pub mod OneRegister
 pub mod Waiting
 pub mod Alone
 pub mod Leaving
-pub mod OneRegister

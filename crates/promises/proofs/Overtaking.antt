@@ -120,7 +120,7 @@ module _ (n : ℕ) (k : Terms) (i j : ℕ) where
 pub overtaken-once : OvertakenOnce
 unfolding OvertakenOnce
 overtaken-once n k o earlier later i j w =
-    once n k i j later (doorwayEnded n k earlier i) (sound-after (earlier ++ Step i ∷ []) (opened-sound n k o)) (w .waiting)
+    omega (arith, once n k i j later (doorwayEnded n k earlier i) (sound-after (earlier ++ Step i ∷ []) (opened-sound n k o)) (w .waiting))
 
 pub overtaken-by-earlier : OvertakenByEarlier
 unfolding OvertakenByEarlier after caller
@@ -131,7 +131,7 @@ overtaken-by-earlier n k o earlier first c rest i j w e =
     record {
       signed =
           decide (leb 2 (placeOf t j))
-          (λ h. leb-true 2 (placeOf t j) h)
+          (λ h. omega (arith, leb-true 2 (placeOf t j) h))
           (λ h.
           let l = leb-false 2 (placeOf t j) h in
           let u = unmoved k (Step i) t j (λ q b. omega (arith, w .lowering, ap (λ (x : ℕ). placeOf t x) q)) in

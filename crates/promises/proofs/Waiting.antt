@@ -31,7 +31,7 @@ use Rattle.rules.proofs.Rows.{has-number, rows-formed}
 use Rattle.rules.proofs.Calls.{Begins, accepted}
 use Rattle.rules.proofs.Keeping.{sound-called}
 use Rattle.promises.specs.Sequences.{placeOf, count, Throughout, stepOf, leaveOf}
-use Rattle.promises.specs.Waiting.{Unopposed, turnsAway, InsideSoon}
+use Rattle.promises.specs.Waiting.{mostSteps, Unopposed, turnsAway, InsideSoon}
 use Rattle.promises.proofs.Steps.{unmoved}
 
 -- Steps to the inside, by place from 0 on. A row takes four at the most and the own row three: the last term is 1 where that is behind.
@@ -150,7 +150,7 @@ module _ (n : ℕ) (k : Terms) (i : ℕ) (i-low : 1 ≤ i) (i-high : i ≤ n) wh
             λ o.
             decide (eqb o i)
             (λ e. rw (eqb-true o i e) (own-calm c f l (omega (arith, h .nearing .high))))
-            (λ e. conflict-false (recordOf t o .session) (c .want) (h .unopposed .0 o (eqb-false o i e)));
+            (λ e. conflict-false (recordOf t o .session) (c .want) (h .unopposed .0 o (omega (arith, eqb-false o i e))));
         not-turned = λ a b. omega (arith, rw (eq-eqb (placeOf t i) 4 a, eq-eqb (placeOf t′ i) 12 b) at (h .not-turned-away));
       }
       in
@@ -191,7 +191,7 @@ unfolding InsideSoon
 inside-soon n k calls t i s u =
     let p = u .asked in
     let h = has-number t i (omega arith) in
-    inside-by n k i (h .0) (omega (arith, h .1, s .length-is)) (5 * n + 3) calls t
+    inside-by n k i (h .0) (omega (arith, h .1, s .length-is)) (mostSteps n) calls t
     (record {
       sound = s;
       nearing = record { low = omega arith; high = omega arith; left = rw p (omega arith) };

@@ -1,5 +1,5 @@
 pub mod Sequences
 pub mod Fairness
-pub mod Witnesses
-pub mod Waiting
 pub mod OneRegister
+pub mod Waiting
+pub mod Witnesses

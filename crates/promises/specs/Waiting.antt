@@ -14,6 +14,18 @@ use Rattle.rules.specs.declared.Call.{Call}
 use Rattle.rules.specs.declared.Call.the-variants.{Step, Leave}
 use Rattle.promises.specs.Sequences.{placeOf, Deed, count, Throughout, stepOf, askOf, leaveOf}
 
+-- Own steps from the ask to the inside: the most where nobody conflicts ..
+abbrev pub mostSteps : (n : ℕ) → ℕ
+mostSteps n = 5 * n + 3
+
+-- .. and just as many as it takes with all others at rest.
+abbrev pub loneSteps : (n : ℕ) → ℕ
+loneSteps n = 3 * n + 5
+
+-- Own steps from the leave to rest.
+abbrev pub closingSteps : ℕ
+closingSteps = 2
+
 -- No other claimant's Session conflicts with the session that claimant i wants.
 abbrev pub Unopposed : (i : ℕ) → Table → Type 0
 Unopposed i t = (j : ℕ) → j ≢ i → conflict (recordOf t j .session) (recordOf t i .want) ≡ false
@@ -22,13 +34,13 @@ Unopposed i t = (j : ℕ) → j ≢ i → conflict (recordOf t j .session) (reco
 unfoldable pub turnsAway : (i : ℕ) → Deed
 turnsAway i c t t′ = eqb (placeOf t i) 4 and eqb (placeOf t′ i) 12
 
--- Claimant i has asked, and has 5 N + 3 own steps among the calls from then on. It does not leave again meanwhile.
+-- Claimant i has asked, and has all those steps among the calls from then on. It does not leave again meanwhile.
 pub record Unhindered (n : ℕ) (k : Terms) (calls : List Call) (t : Table) (i : ℕ) : Type 0 where
   pub asked : placeOf t i ≡ 1
   pub nobody-conflicts : Throughout (Unopposed i) k calls t
   pub not-turned-away : count (turnsAway i) k calls t ≡ 0
   pub no-leave : count (leaveOf i) k calls t ≡ 0
-  pub steps : 5 * n + 3 ≤ count (stepOf i) k calls t
+  pub steps : mostSteps n ≤ count (stepOf i) k calls t
 
 -- Then it is inside, whatever the others do in between.
 unfoldable pub InsideSoon : Type 0
@@ -38,7 +50,7 @@ InsideSoon =
     Unhindered n k calls t i →
     placeOf (after k calls t) i ≡ 10
 
--- With all others at rest it is inside after exactly 3 N + 5 steps: then, and not before.
+-- With all others at rest it is inside after exactly 3 N + 5 of its steps: then, and not before.
 unfoldable pub InsideAlone : Type 0
 InsideAlone =
     (n : ℕ) (k : Terms) (t : Table) (i : ℕ) →
@@ -46,7 +58,7 @@ InsideAlone =
     placeOf t i ≡ 1 →
     ((j : ℕ) → j ≢ i → placeOf t j ≡ 0) →
     (m : ℕ) →
-    placeOf (after k (replicate m (Step i)) t) i ≡ 10 ↔ 3 * n + 5 ≤ m
+    placeOf (after k (replicate m (Step i)) t) i ≡ 10 ↔ loneSteps n ≤ m
 
 -- After leave it is at rest in 2 steps, whatever the others do in between, until it asks anew.
 unfoldable pub BackToRest : Type 0
@@ -56,4 +68,4 @@ BackToRest =
     placeOf t i ≡ 10 →
     let t′ = called k (Leave i) t .table in
     count (askOf i) k calls t′ ≡ 0 →
-    placeOf (after k calls t′) i ≡ 0 ↔ 2 ≤ count (stepOf i) k calls t′
+    placeOf (after k calls t′) i ≡ 0 ↔ closingSteps ≤ count (stepOf i) k calls t′

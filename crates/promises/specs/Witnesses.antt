@@ -2,12 +2,14 @@
 use Prim.Native.Nat.{ℕ, _+_, _*_, _≤_}
 use mathlib.Core.Bool.{true}
 use mathlib.Core.List.{List, [], _∷_, _++_}
+use mathlib.Core.Logic.{_≢_}
 use mathlib.Core.Path.{_≡_}
-use Rattle.rules.specs.Tables.{Table, opened, recordOf, after, Opens}
+use Rattle.rules.specs.Tables.{Table, opened, recordOf, after, Opens, Sound}
 use Rattle.rules.specs.declared.Terms.{Terms}
 use Rattle.rules.specs.declared.Call.{Call}
 use Rattle.promises.specs.Sequences.{placeOf, atOdds, count, stepOf}
 use Rattle.promises.specs.Fairness.{Waits, doorwayEnded, overtakes, signs}
+use Rattle.promises.specs.Waiting.{Unhindered}
 
 -- After these calls claimants 1 and 2 are inside together, under one session.
 pub record Together (n : ℕ) (k : Terms) (calls : List Call) : Type 0 where
@@ -45,3 +47,13 @@ unfoldable pub SomeBehind : Type 0
 SomeBehind =
     (n : ℕ) × (k : Terms) × (earlier : List Call) × (later : List Call) × (then : List Call) × (last : List Call) × (i : ℕ) × (j : ℕ)
     × Behind n k earlier later then last i j
+
+-- Claimant i has its steps among the calls and nobody in its way, though another claimant makes steps too.
+pub record Free (n : ℕ) (k : Terms) (calls : List Call) (t : Table) (i j : ℕ) : Type 0 where
+  pub sound : Sound n k t
+  pub unhindered : Unhindered n k calls t i
+  pub not-alone : 1 ≤ count (stepOf j) k calls t
+  pub apart : i ≢ j
+
+unfoldable pub SomeFree : Type 0
+SomeFree = (n : ℕ) × (k : Terms) × (calls : List Call) × (t : Table) × (i : ℕ) × (j : ℕ) × Free n k calls t i j
