@@ -55,11 +55,9 @@ module _ (n : ℕ) (k : Terms) (i m : ℕ) (at : ℕ → Claimant) (i-low : 1 �
   own-or-blank : {A : Type 0} (o : ℕ) → (o ≡ i → A) → (at o ≡ blank → o ≢ i → A) → A
   own-or-blank o f g = decide (eqb o i) (λ e. f (eqb-true o i e)) (λ e. g (others o (eqb-false o i e)) (eqb-false o i e))
 
-  token-zero : (o : ℕ) → at i .token ≡ 0 → at o .token ≡ 0
-  token-zero o z = own-or-blank o (λ e. ap (λ (x : ℕ). at x .token) e ∙ z) (λ e x. ap (λ (d : Claimant). d .token) e)
-
-  choosing-zero : (o : ℕ) → at i .choosing ≡ 0 → at o .choosing ≡ 0
-  choosing-zero o z = own-or-blank o (λ e. ap (λ (x : ℕ). at x .choosing) e ∙ z) (λ e x. ap (λ (d : Claimant). d .choosing) e)
+  -- A register that is 0 in the own row is 0 in all.
+  zero-at : (register : Claimant → ℕ) (o : ℕ) → register blank ≡ 0 → register (at i) ≡ 0 → register (at o) ≡ 0
+  zero-at register o b z = own-or-blank o (λ e. ap (λ (x : ℕ). register (at x)) e ∙ z) (λ e x. ap register e ∙ b)
 
   not-own : {t : ℕ} (o : ℕ) → (1 ≤ at o .token → Before t i (at o .token) o) → at i .token ≡ t → 1 ≤ t → o ≢ i
   not-own {t} o u e l x =
@@ -79,13 +77,13 @@ module _ (n : ℕ) (k : Terms) (i m : ℕ) (at : ℕ → Claimant) (i-low : 1 �
   nearer (edge drops-session) f e z g = omega arith
   nearer (choice raises) f e z g = omega arith
   nearer (choice (scans {o} (next-row u))) f e z g =
-      omega (arith, token-zero o (ap (λ (d : Claimant). d .token) e ∙ f .fields .token-fits))
+      omega (arith, zero-at (λ d. d .token) o refl (ap (λ (d : Claimant). d .token) e ∙ f .fields .token-fits))
   nearer (choice (scans {o} (last-row u))) f e z g =
-      omega (arith, token-zero o (ap (λ (d : Claimant). d .token) e ∙ f .fields .token-fits))
+      omega (arith, zero-at (λ d. d .token) o refl (ap (λ (d : Claimant). d .token) e ∙ f .fields .token-fits))
   nearer (choice (takes u)) f e z g = omega arith
   nearer (walk lowers) f e z g = omega arith
   nearer (walk (stays {o} (sees-chooser u))) f e z g =
-      absurd (u (choosing-zero o (ap (λ (d : Claimant). d .choosing) e ∙ f .fields .choosing-fits)))
+      absurd (u (zero-at (λ d. d .choosing) o refl (ap (λ (d : Claimant). d .choosing) e ∙ f .fields .choosing-fits)))
   nearer (walk (stays (sees-conflict u))) f e z g = absurd (g .not-seven refl)
   nearer (walk (stays {o} (halts u))) f e z g = omega (arith, own-only o u)
   nearer (walk (stays (stays-halted u))) f e z g =

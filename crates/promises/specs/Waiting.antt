@@ -18,7 +18,7 @@ use Rattle.promises.specs.Sequences.{placeOf, Deed, count, Throughout, s
 abbrev pub mostSteps : (n : ℕ) → ℕ
 mostSteps n = 5 * n + 3
 
--- .. and just as many as it takes with all others at rest.
+-- .. and exactly what it takes with all others at rest.
 abbrev pub loneSteps : (n : ℕ) → ℕ
 loneSteps n = 3 * n + 5
 
@@ -42,7 +42,7 @@ pub record Unhindered (n : ℕ) (k : Terms) (calls : List Call) (t : Table) (i :
   pub no-leave : count (leaveOf i) k calls t ≡ 0
   pub steps : mostSteps n ≤ count (stepOf i) k calls t
 
--- Then it is inside, whatever the others do in between.
+-- Then it is inside, whatever the others do in between: it takes at most 5 N + 3 own steps.
 unfoldable pub InsideSoon : Type 0
 InsideSoon =
     (n : ℕ) (k : Terms) (calls : List Call) (t : Table) (i : ℕ) →

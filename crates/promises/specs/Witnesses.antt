@@ -1,5 +1,5 @@
 -- That these things happen: the promises are not met by a lock in which nobody gets inside, waits or is overtaken.
-use Prim.Native.Nat.{ℕ, _+_, _*_, _≤_}
+use Prim.Native.Nat.{ℕ, _≤_}
 use mathlib.Core.Bool.{true}
 use mathlib.Core.List.{List, [], _∷_, _++_}
 use mathlib.Core.Logic.{_≢_}
@@ -9,7 +9,7 @@ use Rattle.rules.specs.declared.Terms.{Terms}
 use Rattle.rules.specs.declared.Call.{Call}
 use Rattle.promises.specs.Sequences.{placeOf, atOdds, count, stepOf}
 use Rattle.promises.specs.Fairness.{Waits, doorwayEnded, overtakes, signs}
-use Rattle.promises.specs.Waiting.{Unhindered}
+use Rattle.promises.specs.Waiting.{mostSteps, Unhindered}
 
 -- After these calls claimants 1 and 2 are inside together, under one session.
 pub record Together (n : ℕ) (k : Terms) (calls : List Call) : Type 0 where
@@ -38,7 +38,7 @@ pub record Behind (n : ℕ) (k : Terms) (earlier later then last : List Call) (i
   pub not-signed : placeOf (after k earlier (opened n)) j ≤ 1
   pub signed : count (signs j) k later (doorwayEnded n k earlier i) ≡ 1
   pub conflicting : atOdds (after k later (doorwayEnded n k earlier i)) i j ≡ true
-  pub many-steps : 5 * n + 3 ≤ count (stepOf j) k later (doorwayEnded n k earlier i)
+  pub many-steps : mostSteps n ≤ count (stepOf j) k later (doorwayEnded n k earlier i)
   pub not-before : count (overtakes i j) k later (doorwayEnded n k earlier i) ≡ 0
   pub first : placeOf (after k (later ++ then) (doorwayEnded n k earlier i)) i ≡ 10
   pub at-last : placeOf (after k (later ++ then ++ last) (doorwayEnded n k earlier i)) j ≡ 10
