@@ -1,24 +1,22 @@
 -- Two claimants whose sessions conflict are never inside together.
-use mathlib.Core.Path.{_≡_, refl, sym, ap}
-use mathlib.Core.Bool.{true, false}
+use mathlib.Core.Path.{_≡_, ap}
 use mathlib.Core.List.{List, [], _∷_}
 use mathlib.Core.Logic.{_≢_}
 use Prim.Native.Nat.{ℕ, _≤_}
 use native.Mathlib.Omega.{arith}
 use lib.Dec.{eqb}
-use lib.ListN.{length}
 use borrow.Author.Tests.{eqb-true, eqb-false}
-use Rattle.rules.specs.Tables.{Table, opened, recordOf, caller, called, after, Sound}
+use Rattle.rules.specs.Tables.{Table, opened, recordOf, caller, after, Sound}
 use Rattle.rules.specs.declared.Claimant.{Claimant}
 use Rattle.rules.specs.declared.Terms.{Terms}
 use Rattle.rules.specs.declared.Call.{Call}
 use Rattle.rules.proofs.Choices.{decide, Conflict, conflict-true}
 use Rattle.rules.proofs.Shapes.{registers}
-use Rattle.rules.proofs.Calls.{Moves, own-move, Next, next}
+use Rattle.rules.proofs.Calls.{own-move, Next, next}
 use Rattle.rules.proofs.Calls.Next.{still, moves}
 use Rattle.rules.proofs.Rows.{has-number, opened-row, opened-sound, rows-formed}
 use Rattle.rules.proofs.Keeping.{sound-called, sound-after}
-use Rattle.promises.specs.Sequences.{placeOf, atOdds}
+use Rattle.promises.specs.Sequences.{atOdds}
 use Rattle.promises.specs.Fairness.{StaysSound, Exclusion}
 use Rattle.promises.proofs.Passing.{Passing, not-begun, forward, backward}
 

@@ -1,7 +1,7 @@
 -- A claimant j that signed while claimant i waits stays behind i: it takes a token above i's, and halts at i's row.
-use mathlib.Core.Path.{_≡_, refl, sym, ap, _∙_}
+use mathlib.Core.Path.{_≡_}
 use mathlib.Core.Logic.{_≢_}
-use Prim.Native.Nat.{ℕ, _+_, _≤_, _<_, max}
+use Prim.Native.Nat.{ℕ, _≤_, _<_}
 use native.Mathlib.Omega.{arith}
 use lib.Dec.{eqb}
 use borrow.Author.Tests.{eqb-true, eqb-false}
@@ -12,7 +12,7 @@ use Rattle.rules.specs.declared.Terms.{Terms}
 use Rattle.rules.specs.declared.Call.{Call}
 use Rattle.rules.proofs.Choices.{decide, Conflict, Before}
 use Rattle.rules.proofs.Shapes.{Registers, registers}
-use Rattle.rules.proofs.Moves.{Move, Walk, Passes, Onward, lingers, clears-from, passes-from, edged, chosen, walked}
+use Rattle.rules.proofs.Moves.{Move, Passes, Onward, lingers, clears-from, passes-from, edged, chosen, walked}
 use Rattle.rules.proofs.Moves.Move.{edge, choice, walk}
 use Rattle.rules.proofs.Moves.Walk.{lowers, stays, clears, passes}
 use Rattle.rules.proofs.Moves.Passes.{by-token, by-session}

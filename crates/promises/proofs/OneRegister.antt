@@ -1,8 +1,7 @@
 -- A step reads or writes one register, and nothing else of the table matters to it or is changed by it.
 use mathlib.Core.Path.{_≡_, refl, sym, ap}
-use mathlib.Core.Bool.{Bool, true, false, not}
-use mathlib.Core.Logic.{_≢_}
-use Prim.Native.Nat.{ℕ, _≤_}
+use mathlib.Core.Bool.{true, false, not}
+use Prim.Native.Nat.{ℕ}
 use native.Mathlib.Omega.{arith}
 use lib.Dec.{eqb, leb, ltb}
 use borrow.Author.Tests.{leb-true, leb-false}
@@ -19,7 +18,7 @@ use Rattle.rules.specs.declared.Register.{Register}
 use Rattle.rules.specs.declared.Register.the-variants.{Nothing, Choosing, Session, Token}
 use Rattle.rules.proofs.Choices.{decide, true-not-false}
 use Rattle.rules.proofs.Shapes.{_&_, between}
-use Rattle.promises.specs.OneRegister.{Write, writeAt, writes, shared, written, isWrite, isRead, ReadsOrWrites, Accepted, WritesOne, ValueIgnored, SeesOne, AskTouchesNone, LeaveTouchesNone, OthersUntouched}
+use Rattle.promises.specs.OneRegister.{writeAt, writes, shared, written, isWrite, isRead, ReadsOrWrites, WritesOne, ValueIgnored, SeesOne, AskTouchesNone, LeaveTouchesNone, OthersUntouched}
 use Rattle.promises.proofs.Steps.{unmoved}
 
 take-writes : (k : Terms) (c : Claimant) → isWrite (writeAt take k c) ≡ true

@@ -1,5 +1,5 @@
 -- While claimant i waits, each other claimant gets inside under a conflicting session at most once, and only on an earlier claim.
-use mathlib.Core.Path.{_≡_, refl, sym, ap, _∙_}
+use mathlib.Core.Path.{_≡_, refl, ap}
 use mathlib.Core.Bool.{true, false, not}
 use mathlib.Core.List.{List, [], _∷_, _++_}
 use mathlib.Core.Logic.{_≢_}
@@ -20,7 +20,7 @@ use Rattle.rules.proofs.Rows.{after-append, has-number, opened-sound, rows-form
 use Rattle.rules.proofs.Keeping.{sound-called, sound-after}
 use Rattle.promises.specs.Sequences.{placeOf, atOdds, count, Throughout}
 use Rattle.promises.specs.Fairness.{overtakes, signs, doorwayEnded, OvertakenOnce, OvertakenByEarlier}
-use Rattle.promises.proofs.Lateness.{Late, Lags, Waiting, apart, lags-next}
+use Rattle.promises.proofs.Lateness.{Late, Lags, apart, lags-next}
 use Rattle.promises.proofs.Steps.{unmoved, at-once, counted}
 
 -- What it says that a call overtakes: a claimant's Session is its want, waiting and inside.

@@ -1,7 +1,6 @@
 -- The invariant behind exclusion, for a claimant i with the record c and another claimant j with the record d.
-use mathlib.Core.Path.{_≡_, refl, sym, ap}
-use mathlib.Core.Logic.{_≢_}
-use Prim.Native.Nat.{ℕ, _≤_, _<_, max}
+use mathlib.Core.Path.{_≡_, sym}
+use Prim.Native.Nat.{ℕ, _≤_, _<_}
 use native.Mathlib.Omega.{arith}
 use lib.Dec.{eqb}
 use borrow.Author.Tests.{eqb-true, eqb-false}
@@ -10,7 +9,7 @@ use Rattle.rules.specs.declared.Claimant.{Claimant}
 use Rattle.rules.specs.declared.Terms.{Terms}
 use Rattle.rules.proofs.Choices.{decide, Conflict, Before}
 use Rattle.rules.proofs.Shapes.{Registers}
-use Rattle.rules.proofs.Moves.{Move, Walk, Clears, Passes, Onward, lingers, clears-from, passes-from, edged, Chosen, chosen, Walked, walked}
+use Rattle.rules.proofs.Moves.{Move, Clears, Passes, Onward, lingers, clears-from, passes-from, edged, Chosen, chosen, Walked, walked}
 use Rattle.rules.proofs.Moves.Move.{edge, choice, walk}
 use Rattle.rules.proofs.Moves.Walk.{lowers, stays, clears, passes}
 use Rattle.rules.proofs.Moves.Clears.{no-chooser, no-conflict}

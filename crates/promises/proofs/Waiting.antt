@@ -1,6 +1,6 @@
 -- A claimant that nobody is in the way of is inside after 5 n + 3 own steps.
-use mathlib.Core.Path.{_≡_, refl, sym, ap, _∙_}
-use mathlib.Core.Bool.{true, false}
+use mathlib.Core.Path.{_≡_, refl, ap, _∙_}
+use mathlib.Core.Bool.{false}
 use mathlib.Core.List.{List, [], _∷_}
 use mathlib.Core.Logic.{_≢_}
 use Prim.Native.Nat.{ℕ, zero, suc, _+_, _-_, _*_, _≤_, min}
@@ -8,16 +8,14 @@ use native.Mathlib.Omega.{arith}
 use lib.Dec.{eqb}
 use lib.ListN.{getD}
 use borrow.Author.Tests.{eqb-true, eqb-false, eq-eqb}
-use Rattle.rules.specs.Tests.{pick}
 use Rattle.rules.specs.Places.{rows}
-use Rattle.rules.specs.Rules.{conflict}
 use Rattle.rules.specs.Tables.{Table, recordOf, caller, called, after, Sound}
 use Rattle.rules.specs.declared.Claimant.{Claimant}
 use Rattle.rules.specs.declared.Terms.{Terms}
 use Rattle.rules.specs.declared.Call.{Call}
 use Rattle.rules.specs.declared.Call.the-variants.{Ask, Step, Leave}
 use Rattle.rules.proofs.Choices.{decide, Conflict, conflict-false}
-use Rattle.rules.proofs.Shapes.{Formed, between, registers}
+use Rattle.rules.proofs.Shapes.{Formed, between}
 use Rattle.rules.proofs.Moves.{Move}
 use Rattle.rules.proofs.Moves.Move.{edge, choice, walk}
 use Rattle.rules.proofs.Moves.Edge.{asks, signs, turned-away, leaves, drops-token, drops-session}

@@ -1,6 +1,6 @@
 -- How a sequence of calls is spoken of: where a claimant is, what a call does, how often, and what holds all the while.
 use Prim.Native.Nat.{ℕ, _+_}
-use mathlib.Core.Bool.{Bool, true, false}
+use mathlib.Core.Bool.{Bool, false}
 use mathlib.Core.List.{List, [], _∷_}
 use lib.Dec.{eqb}
 use Rattle.rules.specs.Tests.{pick}

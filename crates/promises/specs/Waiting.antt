@@ -1,6 +1,6 @@
 -- Waiting that needs no waiting: how many own steps take a claimant inside that nobody is in the way of, and back to rest.
 use Prim.Native.Nat.{ℕ, _+_, _*_, _≤_}
-use mathlib.Core.Bool.{true, false}
+use mathlib.Core.Bool.{false}
 use mathlib.Core.List.{List}
 use mathlib.Core.Logic.{_≢_, _↔_}
 use mathlib.Core.Path.{_≡_}

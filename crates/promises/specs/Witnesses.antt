@@ -1,7 +1,7 @@
 -- That these things happen: the promises are not met by a lock in which nobody gets inside, waits or is overtaken.
 use Prim.Native.Nat.{ℕ, _≤_}
 use mathlib.Core.Bool.{true}
-use mathlib.Core.List.{List, [], _∷_, _++_}
+use mathlib.Core.List.{List, _++_}
 use mathlib.Core.Logic.{_≢_}
 use mathlib.Core.Path.{_≡_}
 use Rattle.rules.specs.Tables.{Table, opened, recordOf, after, Opens, Sound}

@@ -1,14 +1,14 @@
 -- One call on a table: it is refused and nothing changes, or the caller's record moves and the others stay.
-use mathlib.Core.Path.{_≡_, refl, sym, ap, _∙_}
+use mathlib.Core.Path.{_≡_, refl, ap}
 use mathlib.Core.Bool.{Bool, true, false, not}
 use mathlib.Core.List.{List, [], _∷_}
 use mathlib.Core.Logic.{_≢_}
 use Prim.Native.Nat.{ℕ, _-_, _≤_}
 use native.Mathlib.Omega.{arith}
-use lib.Dec.{eqb, leb}
+use lib.Dec.{eqb}
 use lib.ListN.{length, set, length-set}
 use borrow.Author.Tests.{eqb-true, eqb-false, eq-eqb, ne-eqb, le-leb, not-false}
-use Rattle.rules.specs.Tests.{pick, _and_, _or_, within, Refusal, _when_, first}
+use Rattle.rules.specs.Tests.{_and_, _or_, within, Refusal, _when_, first}
 use Rattle.rules.specs.Records.{placed, withWant}
 use Rattle.rules.specs.Places.{isSession, placeAt, wellFormed}
 use Rattle.rules.specs.Answers.{numberOf, byteOf}
@@ -17,13 +17,12 @@ use Rattle.rules.specs.Tables.{Table, recordOf, rowRead, valueRead, allW
 use Rattle.rules.specs.declared.Claimant.{Claimant}
 use Rattle.rules.specs.declared.Terms.{Terms}
 use Rattle.rules.specs.declared.Turn.{Turn}
-use Rattle.rules.specs.declared.Answer.{Answer}
 use Rattle.rules.specs.declared.Answer.the-variants.{Refused}
 use Rattle.rules.specs.declared.Call.{Call}
 use Rattle.rules.specs.declared.Call.the-variants.{Ask, Step, Leave}
 use Rattle.rules.specs.declared.Register.{Register}
 use Rattle.rules.specs.declared.Register.the-variants.{Nothing, Choosing, Session, Token}
-use Rattle.rules.proofs.Choices.{decide, both, neither, within-true, within-holds, Numbered, NoneGiven, none-refuses, judged, first-small}
+use Rattle.rules.proofs.Choices.{neither, within-true, within-holds, NoneGiven, none-refuses, judged, first-small}
 use Rattle.rules.proofs.Shapes.{Formed, well-formed, Bounds, _&_, between}
 use Rattle.rules.proofs.Moves.{Move, step-taken}
 use Rattle.rules.proofs.Moves.Move.{edge}

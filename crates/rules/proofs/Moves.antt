@@ -1,5 +1,5 @@
 -- What an accepted call does to the caller's record: one constructor for each kind of move, with the places written out.
-use mathlib.Core.Path.{_≡_, refl}
+use mathlib.Core.Path.{_≡_}
 use mathlib.Core.Bool.{true, false}
 use mathlib.Core.Logic.{_≢_, inl, inr}
 use Prim.Native.Nat.{ℕ, _+_, _≤_, _<_, max}
@@ -7,7 +7,7 @@ use native.Mathlib.Omega.{arith}
 use lib.Dec.{eqb, leb, ltb}
 use borrow.Author.Tests.{eqb-true, eqb-false, ltb-true, ltb-false, leb-true, leb-false}
 use Rattle.rules.specs.Tests.{_or_}
-use Rattle.rules.specs.Records.{claimant, placed, withWant}
+use Rattle.rules.specs.Records.{claimant, placed}
 use Rattle.rules.specs.Places.{placeAt, rows}
 use Rattle.rules.specs.Answers.{numberOf}
 use Rattle.rules.specs.Rules.{stepped, passed, conflict, before, reads, readAt, valueIn, reached}
