@@ -1,14 +1,14 @@
 -- One call on a table: it is refused and nothing changes, or the caller's record moves and the others stay.
-use mathlib.Core.Path.{_≡_, refl, sym, ap, _∙_}
+use mathlib.Core.Path.{_≡_, refl, ap}
 use mathlib.Core.Bool.{Bool, true, false, not}
 use mathlib.Core.List.{List, [], _∷_}
 use mathlib.Core.Logic.{_≢_}
 use Prim.Native.Nat.{ℕ, _-_, _≤_}
 use native.Mathlib.Omega.{arith}
-use lib.Dec.{eqb, leb}
+use lib.Dec.{eqb}
 use lib.ListN.{length, set, length-set}
 use borrow.Author.Tests.{eqb-true, eqb-false, eq-eqb, ne-eqb, le-leb, not-false}
-use Rattle.rules.specs.Tests.{pick, _and_, _or_, within, Refusal, _when_, first}
+use Rattle.rules.specs.Tests.{_and_, _or_, within, Refusal, _when_, first}
 use Rattle.rules.specs.Records.{placed, withWant}
 use Rattle.rules.specs.Places.{isSession, placeAt, wellFormed}
 use Rattle.rules.specs.Answers.{numberOf, byteOf}
@@ -17,17 +17,16 @@ use Rattle.rules.specs.Tables.{Table, recordOf, rowRead, valueRead, allW
 use Rattle.rules.specs.declared.Claimant.{Claimant}
 use Rattle.rules.specs.declared.Terms.{Terms}
 use Rattle.rules.specs.declared.Turn.{Turn}
-use Rattle.rules.specs.declared.Answer.{Answer}
 use Rattle.rules.specs.declared.Answer.the-variants.{Refused}
 use Rattle.rules.specs.declared.Call.{Call}
 use Rattle.rules.specs.declared.Call.the-variants.{Ask, Step, Leave}
 use Rattle.rules.specs.declared.Register.{Register}
 use Rattle.rules.specs.declared.Register.the-variants.{Nothing, Choosing, Session, Token}
-use Rattle.rules.proofs.Choices.{decide, both, neither, within-true, within-holds, Numbered, NoneGiven, none-refuses, judged, first-small}
+use Rattle.rules.proofs.Choices.{neither, within-true, within-holds, Numbered, NoneGiven, none-refuses, judged, first-small}
 use Rattle.rules.proofs.Shapes.{Formed, well-formed, Bounds, _&_, between}
 use Rattle.rules.proofs.Moves.{Move, step-taken}
-use Rattle.rules.proofs.Moves.Move.{asks, closes}
-use Rattle.rules.proofs.Moves.Closes.{leaves}
+use Rattle.rules.proofs.Moves.Move.{edge}
+use Rattle.rules.proofs.Moves.Edge.{asks, leaves}
 use Rattle.rules.proofs.Rows.{own-row, other-row, same-record, AllFormed, rows-formed, any-bounds}
 
 -- Where each call begins: an ask at rest, for a session; a leave inside; a step anywhere else.
@@ -65,63 +64,62 @@ unfolding refusals first
 first-own own o a b e = let h = none-shared o a b e in rw (h .0, h .1 .0, h .1 .1 .0, h .1 .1 .1 .0)
 
 value-holds : (k : Terms) (r : Register) (d : Claimant) → Bounds k d → holds r k (valueIn r d) ≡ true
-unfolding holds valueIn
 value-holds k Nothing d b = refl
 value-holds k (Choosing o) d b = le-leb (d .choosing) 1 (b .choosing)
 value-holds k (Session o) d b = le-leb (d .session) 65535 (b .session)
 value-holds k (Token o) d b = le-leb (d .token) (k .ceiling) (b .token)
 
 module _ (n : ℕ) (k : Terms) (w : ℕ) (at : ℕ → Claimant) (c : Claimant) (o : Opens n k) (a : 1 ≤ w) (b : w ≤ n) (f : Formed n k c) where
+  -- What a call itself refuses is given to none that begins, and such a call makes a move.
+  judge : (call : Call) {broken : Bool} (own : List Refusal) (r : Turn) → broken ≡ false → Numbered own → (Begins call c → NoneGiven own)
+      → (NoneGiven own → Begins call c × Move n k (caller call) at c (r .after) × (numberOf (r .answer) ≤ 31))
+      → Turned n k at call c (unless (first (refusals n k w broken own)) c r)
+  unfolding unless
+  judge call own r e p h g =
+      rw (first-own own o a b e)
+      (judged (Turned n k at call c) r (record { after = c; answer = Refused (first own) }) own p
+      (λ x. let y = g x in moved (y .0) (y .1) (y .2))
+      (λ x. refused (λ y. x (h y)) (first own) (first-small own p)))
+
   ask-turned : (s : ℕ) → Turned n k at (Ask w s) c (asked n k w s c)
-  unfolding asked unless caller numberOf
+  unfolding asked caller
   ask-turned s =
-      let own = 5 when not (isSession s) ∷ 6 when not (eqb (c .place) 0) ∷ [] in
-      rw (first-own own o a b (ap not (well-formed f)))
-      (judged (Turned n k at (Ask w s) c) (reached (placed 1 (withWant s c))) (record { after = c; answer = Refused (first own) })
-      own (omega arith)
+      judge (Ask w s) (5 when not (isSession s) ∷ 6 when not (eqb (c .place) 0) ∷ []) (reached (placed 1 (withWant s c)))
+      (ap not (well-formed f)) (omega arith)
+      (λ g. (ap not (within-holds 1 65535 s (g .1) (g .2)), (ap not (eq-eqb (c .place) 0 (g .0)), tt)))
       (λ h.
       let v = within-true 1 65535 s (not-false (isSession s) (h .0)) in
-      let p = eqb-true (c .place) 0 (not-false (eqb (c .place) 0) (h .1 .0)) in
-      moved (p, v .0, v .1)
-      (between (λ d. Move n k w at d (placed 1 (withWant s d))) c 0 1 (omega arith) (omega arith) (asks v & tt))
-      (omega arith))
-      (λ h.
-      refused (λ g. h (ap not (within-holds 1 65535 s (g .1) (g .2)), (ap not (eq-eqb (c .place) 0 (g .0)), tt)))
-      (first own) (first-small own (omega arith))))
+      let p = eqb-true (c .place) 0 (not-false (eqb (c .place) 0) (h .1 .0)) in (
+        (p, v .0, v .1),
+        between (λ d. Move n k w at d (placed 1 (withWant s d))) c 0 1 (omega arith) (omega arith) (edge (asks v) & tt),
+        omega arith,
+      ))
 
   step-turned : ((j : ℕ) → Bounds k (at j)) → Turned n k at (Step w) c (stepTaken n k w (valueIn (reads c) (at (rowRead (reads c)))) c)
-  unfolding stepTaken unless caller
+  unfolding stepTaken caller
   step-turned h =
-      let v = valueIn (reads c) (at (rowRead (reads c))) in
-      let own = 8 when (eqb (c .place) 0 or eqb (c .place) 10) ∷ [] in
+      let d = at (rowRead (reads c)) in
+      let v = valueIn (reads c) d in
       let fine : (wellFormed n k c and holds (reads c) k v) ≡ true =
-      rw (well-formed f) (value-holds k (reads c) (at (rowRead (reads c))) (h (rowRead (reads c)))) in
-      rw (first-own own o a b (ap not fine))
-      (judged (Turned n k at (Step w) c) (stepped (placeAt (c .place)) n k w v c) (record { after = c; answer = Refused (first own) })
-      own (omega arith)
+      rw (well-formed f) (value-holds k (reads c) d (h (rowRead (reads c)))) in
+      judge (Step w) (8 when (eqb (c .place) 0 or eqb (c .place) 10) ∷ []) (stepped (placeAt (c .place)) n k w v c)
+      (ap not fine) (omega arith)
+      (λ e. (rw (ne-eqb (c .place) 0 (e .0), ne-eqb (c .place) 10 (e .1)) refl, tt))
       (λ g.
       let e = neither (eqb (c .place) 0) (eqb (c .place) 10) (g .0) in
       let p = eqb-false (c .place) 0 (e .0) in
       let q = eqb-false (c .place) 10 (e .1) in
       let s = step-taken n k w at c (f .has-row) p q in
-      moved (p, q) (s .move) (s .small))
-      (λ g.
-      refused (λ e. g (rw (ne-eqb (c .place) 0 (e .0), ne-eqb (c .place) 10 (e .1)) refl, tt))
-      (first own) (first-small own (omega arith))))
+      ((p, q), s .move, s .small))
 
   leave-turned : Turned n k at (Leave w) c (left n k w c)
-  unfolding left unless caller numberOf
+  unfolding left caller
   leave-turned =
-      let own = 7 when not (eqb (c .place) 10) ∷ [] in
-      rw (first-own own o a b (ap not (well-formed f)))
-      (judged (Turned n k at (Leave w) c) (reached (placed 11 c)) (record { after = c; answer = Refused (first own) })
-      own (omega arith)
+      judge (Leave w) (7 when not (eqb (c .place) 10) ∷ []) (reached (placed 11 c)) (ap not (well-formed f)) (omega arith)
+      (λ g. (ap not (eq-eqb (c .place) 10 g), tt))
       (λ h.
       let p = eqb-true (c .place) 10 (not-false (eqb (c .place) 10) (h .0)) in
-      moved p
-      (between (λ d. Move n k w at d (placed 11 d)) c 10 1 (omega arith) (omega arith) (closes leaves & tt))
-      (omega arith))
-      (λ h. refused (λ g. h (ap not (eq-eqb (c .place) 10 g), tt)) (first own) (first-small own (omega arith))))
+      (p, between (λ d. Move n k w at d (placed 11 d)) c 10 1 (omega arith) (omega arith) (edge leaves & tt), omega arith))
 
 -- On a sound table, for a claimant that has a row there.
 pub turned : {n : ℕ} {k : Terms} {t : Table} → Sound n k t → (c : Call) → 1 ≤ caller c → caller c ≤ n
@@ -194,7 +192,6 @@ module _ {n : ℕ} {k : Terms} {t : Table} (s : Sound n k t) (c : Call) (a : 1 �
   accepted h = rw (called-here s c a b) (begun-turn h (turned s c a b))
 
 turn-small : {n : ℕ} {k : Terms} {at : ℕ → Claimant} {c : Call} {d : Claimant} {r : Turn} → Turned n k at c d r → numberOf (r .answer) ≤ 41
-unfolding numberOf
 turn-small (refused h x l) = omega arith
 turn-small (moved h m l) = omega arith
 
@@ -226,9 +223,7 @@ module _ (k : Terms) (c : Call) (t : Table) where
       by-turn (λ d. length (d .table) ≡ length t) (λ s a b. length-set t (caller c - 1) (turn k c t .after)) (λ r l. refl)
 
   pub answer-small : numberOf (called k c t .answer) ≤ 41
-  unfolding numberOf
   answer-small = by-turn (λ d. numberOf (d .answer) ≤ 41) (λ s a b. turn-small (turned s c a b)) (λ r l. omega arith)
 
   pub answer-byte : byteOf (called k c t .answer) ≡ numberOf (called k c t .answer)
-  unfolding byteOf
   answer-byte = omega (arith, answer-small)

@@ -1,5 +1,5 @@
 -- What an accepted call does to the caller's record: one constructor for each kind of move, with the places written out.
-use mathlib.Core.Path.{_≡_, refl}
+use mathlib.Core.Path.{_≡_}
 use mathlib.Core.Bool.{true, false}
 use mathlib.Core.Logic.{_≢_, inl, inr}
 use Prim.Native.Nat.{ℕ, _+_, _≤_, _<_, max}
@@ -7,7 +7,7 @@ use native.Mathlib.Omega.{arith}
 use lib.Dec.{eqb, leb, ltb}
 use borrow.Author.Tests.{eqb-true, eqb-false, ltb-true, ltb-false, leb-true, leb-false}
 use Rattle.rules.specs.Tests.{_or_}
-use Rattle.rules.specs.Records.{claimant, placed, withWant}
+use Rattle.rules.specs.Records.{claimant, placed}
 use Rattle.rules.specs.Places.{placeAt, rows}
 use Rattle.rules.specs.Answers.{numberOf}
 use Rattle.rules.specs.Rules.{stepped, passed, conflict, before, reads, readAt, valueIn, reached}
@@ -40,27 +40,35 @@ pub data Passes (at : ℕ → Claimant) (i t w o : ℕ) : (p : ℕ) → Type 0 w
   by-token : (1 ≤ at o .token → Before t i (at o .token) o) → Passes at i t w o 8
   by-session : ¬ (Conflict (at o .session) w) → Passes at i t w o 9
 
--- A leave, and the two closing writes.
-pub data Closes : Claimant → Claimant → Type 0 where
-  leaves : {x s t w o m : ℕ} → Closes (claimant 10 x s t w o m) (claimant 11 x s t w o m)
-  drops-token : {x s t w o m : ℕ} → Closes (claimant 11 x s t w o m) (claimant 12 x s 0 w o m)
-  drops-session : {x s t w o m : ℕ} → Closes (claimant 12 x s t w o m) (claimant 0 x 0 t 0 o m)
+-- At the edges of a claim: ask and sign, being turned away, leave and the two closing writes.
+pub data Edge (k : Terms) : Claimant → Claimant → Type 0 where
+  asks : {x s t w w′ o m : ℕ} → (1 ≤ w′) × (w′ ≤ 65535) → Edge k (claimant 0 x s t w o m) (claimant 1 x s t w′ o m)
+  signs : {x s t w o m : ℕ} → Edge k (claimant 1 x s t w o m) (claimant 2 x w t w o m)
+  turned-away : {x s t w o m : ℕ} → k .ceiling ≤ m → Edge k (claimant 4 x s t w o m) (claimant 12 0 s t w o 0)
+  leaves : {x s t w o m : ℕ} → Edge k (claimant 10 x s t w o m) (claimant 11 x s t w o m)
+  drops-token : {x s t w o m : ℕ} → Edge k (claimant 11 x s t w o m) (claimant 12 x s 0 w o m)
+  drops-session : {x s t w o m : ℕ} → Edge k (claimant 12 x s t w o m) (claimant 0 x 0 t 0 o m)
 
--- Claimant i moves from one record to the other, in a table of n rows, where `at` gives the records before.
-pub data Move (n : ℕ) (k : Terms) (i : ℕ) (at : ℕ → Claimant) : Claimant → Claimant → Type 0 where
-  asks : {x s t w w′ o m : ℕ} → (1 ≤ w′) × (w′ ≤ 65535) → Move n k i at (claimant 0 x s t w o m) (claimant 1 x s t w′ o m)
-  signs : {x s t w o m : ℕ} → Move n k i at (claimant 1 x s t w o m) (claimant 2 x w t w o m)
-  raises : {x s t w o m : ℕ} → Move n k i at (claimant 2 x s t w o m) (claimant 3 1 s t w 1 0)
+-- Choosing a token, in a table of n rows.
+pub data Choice (n : ℕ) (k : Terms) (at : ℕ → Claimant) : Claimant → Claimant → Type 0 where
+  raises : {x s t w o m : ℕ} → Choice n k at (claimant 2 x s t w o m) (claimant 3 1 s t w 1 0)
   scans : {x s t w o m p′ o′ : ℕ} → Onward n 3 4 o p′ o′
-      → Move n k i at (claimant 3 x s t w o m) (claimant p′ x s t w o′ (max m (at o .token)))
-  takes : {x s t w o m : ℕ} → m < k .ceiling → Move n k i at (claimant 4 x s t w o m) (claimant 5 x s (m + 1) w o 0)
-  turned-away : {x s t w o m : ℕ} → k .ceiling ≤ m → Move n k i at (claimant 4 x s t w o m) (claimant 12 0 s t w o 0)
-  lowers : {x s t w o m : ℕ} → Move n k i at (claimant 5 x s t w o m) (claimant 6 0 s t w 1 m)
-  stays : {x s t w o m p p′ : ℕ} → Stays at w o p p′ → Move n k i at (claimant p x s t w o m) (claimant p′ x s t w o m)
-  clears : {x s t w o m p : ℕ} → Clears at w o p → Move n k i at (claimant p x s t w o m) (claimant 8 x s t w o m)
+      → Choice n k at (claimant 3 x s t w o m) (claimant p′ x s t w o′ (max m (at o .token)))
+  takes : {x s t w o m : ℕ} → m < k .ceiling → Choice n k at (claimant 4 x s t w o m) (claimant 5 x s (m + 1) w o 0)
+
+-- Walking along the rows with it, from the end of the doorway to the inside.
+pub data Walk (n i : ℕ) (at : ℕ → Claimant) : Claimant → Claimant → Type 0 where
+  lowers : {x s t w o m : ℕ} → Walk n i at (claimant 5 x s t w o m) (claimant 6 0 s t w 1 m)
+  stays : {x s t w o m p p′ : ℕ} → Stays at w o p p′ → Walk n i at (claimant p x s t w o m) (claimant p′ x s t w o m)
+  clears : {x s t w o m p : ℕ} → Clears at w o p → Walk n i at (claimant p x s t w o m) (claimant 8 x s t w o m)
   passes : {x s t w o m p p′ o′ : ℕ} → Passes at i t w o p → Onward n 6 10 o p′ o′
-      → Move n k i at (claimant p x s t w o m) (claimant p′ x s t w o′ m)
-  closes : {c c′ : Claimant} → Closes c c′ → Move n k i at c c′
+      → Walk n i at (claimant p x s t w o m) (claimant p′ x s t w o′ m)
+
+-- Claimant i moves from one record to the other, where `at` gives the records before.
+pub data Move (n : ℕ) (k : Terms) (i : ℕ) (at : ℕ → Claimant) : Claimant → Claimant → Type 0 where
+  edge : {c c′ : Claimant} → Edge k c c′ → Move n k i at c c′
+  choice : {c c′ : Claimant} → Choice n k at c c′ → Move n k i at c c′
+  walk : {c c′ : Claimant} → Walk n i at c c′ → Move n k i at c c′
 
 -- Where the looks at a row lead from and to.
 pub record Lingers (p p′ : ℕ) : Type 0 where
@@ -82,53 +90,80 @@ pub passes-from : {at : ℕ → Claimant} {i t w o p : ℕ} → Passes at i t w 
 passes-from (by-token u) = omega arith
 passes-from (by-session u) = omega arith
 
--- A move of a well-formed record among such records gives a well-formed record.
-pub keeps-formed : {n : ℕ} {k : Terms} {i : ℕ} {at : ℕ → Claimant} {c c′ : Claimant} → 1 ≤ n
-    → ((o : ℕ) → 1 ≤ o → o ≤ n → at o .token ≤ k .ceiling) → Formed n k c → Move n k i at c c′ → Formed n k c′
-unfolding rows
-keeps-formed l h f (asks u) = omega arith
-keeps-formed l h f signs = omega arith
-keeps-formed l h f raises = omega arith
-keeps-formed l h f (scans {o} (next-row u)) = omega (arith, h o (f .fields .other-fits .0) (f .fields .other-fits .1))
-keeps-formed l h f (scans {o} (last-row u)) = omega (arith, h o (f .fields .other-fits .0) (f .fields .other-fits .1))
-keeps-formed l h f (takes u) = omega arith
-keeps-formed l h f (turned-away u) = omega arith
-keeps-formed l h f lowers = omega arith
-keeps-formed l h f (stays y) = waits-formed (lingers y .from) (lingers y .to) f
-keeps-formed l h f (clears y) = waits-formed (omega (arith, clears-from y)) (omega arith) f
-keeps-formed {n} {k} l h f (passes {x} {s} {t} {w} {o} {m} y v) = go v
-  where
-    g : Formed n k (claimant 6 x s t w o m)
-    g = waits-formed (omega (arith, passes-from y)) (omega arith) f
-
-    go : {p′ o′ : ℕ} → Onward n 6 10 o p′ o′ → Formed n k (claimant p′ x s t w o′ m)
-    go (next-row u) = omega (arith, g)
-    go (last-row u) = omega (arith, g)
-keeps-formed l h f (closes leaves) = omega arith
-keeps-formed l h f (closes drops-token) = omega arith
-keeps-formed l h f (closes drops-session) = omega arith
-
--- What a move keeps, and where the closing moves lead.
-pub record Outline (c c′ : Claimant) : Type 0 where
-  pub want-kept : 1 ≤ c .place → c .place ≤ 11 → c′ .want ≡ c .want
-  pub token-kept : 6 ≤ c .place → c .place ≤ 10 → c′ .token ≡ c .token
+-- The same of the kinds of move, and what they keep.
+pub record Edged (c c′ : Claimant) : Type 0 where
+  pub to : 3 ≤ c′ .place → 11 ≤ c′ .place
+  pub leaving : c .place ≡ 10 → c′ .place ≡ 11
   pub closing : c .place ≡ 11 → c′ .place ≡ 12
   pub closed : c .place ≡ 12 → c′ .place ≡ 0
 
-pub outline : {n : ℕ} {k : Terms} {i : ℕ} {at : ℕ → Claimant} {c c′ : Claimant} → Move n k i at c c′ → Outline c c′
-outline (asks u) = omega arith
-outline signs = omega arith
-outline raises = omega arith
-outline (scans v) = omega arith
-outline (takes u) = omega arith
-outline (turned-away u) = omega arith
-outline lowers = omega arith
-outline (stays y) = omega (arith, lingers y .from)
-outline (clears y) = omega (arith, clears-from y)
-outline (passes y v) = omega (arith, passes-from y)
-outline (closes leaves) = omega arith
-outline (closes drops-token) = omega arith
-outline (closes drops-session) = omega arith
+pub edged : {k : Terms} {c c′ : Claimant} → Edge k c c′ → Edged c c′
+edged (asks u) = omega arith
+edged signs = omega arith
+edged (turned-away u) = omega arith
+edged leaves = omega arith
+edged drops-token = omega arith
+edged drops-session = omega arith
+
+pub record Chosen (c c′ : Claimant) : Type 0 where
+  pub from : (2 ≤ c .place) × (c .place ≤ 4)
+  pub to : (3 ≤ c′ .place) × (c′ .place ≤ 5)
+  pub want-kept : c′ .want ≡ c .want
+
+pub chosen : {n : ℕ} {k : Terms} {at : ℕ → Claimant} {c c′ : Claimant} → Choice n k at c c′ → Chosen c c′
+chosen raises = omega arith
+chosen (scans (next-row u)) = omega arith
+chosen (scans (last-row u)) = omega arith
+chosen (takes u) = omega arith
+
+pub record Walked (c c′ : Claimant) : Type 0 where
+  pub from : (5 ≤ c .place) × (c .place ≤ 9)
+  pub to : (6 ≤ c′ .place) × (c′ .place ≤ 10)
+  pub want-kept : c′ .want ≡ c .want
+  pub token-kept : c′ .token ≡ c .token
+
+pub walked : {n i : ℕ} {at : ℕ → Claimant} {c c′ : Claimant} → Walk n i at c c′ → Walked c c′
+walked lowers = omega arith
+walked (stays y) = omega (arith, lingers y .from, lingers y .to)
+walked (clears y) = omega (arith, clears-from y)
+walked (passes y (next-row u)) = omega (arith, passes-from y)
+walked (passes y (last-row u)) = omega (arith, passes-from y)
+
+-- A move of a well-formed record among such records gives a well-formed record.
+module _ {n : ℕ} {k : Terms} (some-row : 1 ≤ n) where
+  edge-formed : {c c′ : Claimant} → Edge k c c′ → Formed n k c → Formed n k c′
+  unfolding rows
+  edge-formed (asks u) f = omega arith
+  edge-formed signs f = omega arith
+  edge-formed (turned-away u) f = omega arith
+  edge-formed leaves f = omega arith
+  edge-formed drops-token f = omega arith
+  edge-formed drops-session f = omega arith
+
+  choice-formed : {at : ℕ → Claimant} {c c′ : Claimant} → ((o : ℕ) → at o .token ≤ k .ceiling) → Choice n k at c c′ → Formed n k c → Formed n k c′
+  unfolding rows
+  choice-formed h raises f = omega arith
+  choice-formed h (scans {o} (next-row u)) f = omega (arith, h o)
+  choice-formed h (scans {o} (last-row u)) f = omega (arith, h o)
+  choice-formed h (takes u) f = omega arith
+
+  onward-formed : {x s t w o m p′ o′ : ℕ} → Onward n 6 10 o p′ o′ → Formed n k (claimant 6 x s t w o m) → Formed n k (claimant p′ x s t w o′ m)
+  unfolding rows
+  onward-formed (next-row u) f = omega arith
+  onward-formed (last-row u) f = omega arith
+
+  walk-formed : {i : ℕ} {at : ℕ → Claimant} {c c′ : Claimant} → Walk n i at c c′ → Formed n k c → Formed n k c′
+  unfolding rows
+  walk-formed lowers f = omega arith
+  walk-formed (stays y) f = waits-formed (lingers y .from) (lingers y .to) f
+  walk-formed (clears y) f = waits-formed (omega (arith, clears-from y)) (omega arith) f
+  walk-formed (passes y v) f = onward-formed v (waits-formed (omega (arith, passes-from y)) (omega arith) f)
+
+  pub keeps-formed : {i : ℕ} {at : ℕ → Claimant} {c c′ : Claimant} → ((o : ℕ) → at o .token ≤ k .ceiling) → Move n k i at c c′
+      → Formed n k c → Formed n k c′
+  keeps-formed h (edge y) f = edge-formed y f
+  keeps-formed h (choice y) f = choice-formed h y f
+  keeps-formed h (walk y) f = walk-formed y f
 
 -- A step that nothing refuses: the move, and an answer that is a place or 31.
 pub record Taken (n : ℕ) (k : Terms) (i : ℕ) (at : ℕ → Claimant) (c : Claimant) (r : Turn) : Type 0 where
@@ -146,22 +181,21 @@ module _ (n : ℕ) (k : Terms) (i : ℕ) (at : ℕ → Claimant) where
   not-ahead t v o e = omega (arith, eqb-false v 0 (neither (eqb v 0) (before t i v o) e .0))
 
   to : {c c′ : Claimant} → Move n k i at c c′ → c′ .place ≤ 31 → Taken n k i at c (reached c′)
-  unfolding numberOf
   to m h = record { move = m; small = h }
 
   passing : (c : Claimant) {p : ℕ} → Passes at i (c .token) (c .want) (c .other) p → Taken n k i at (placed p c) (reached (passed n (placed p c)))
   unfolding passed
   passing c u =
       decide (eqb (c .other) n)
-      (λ e. rw e (to (passes u (last-row (eqb-true (c .other) n e))) (omega arith)))
-      (λ e. rw e (to (passes u (next-row (eqb-false (c .other) n e))) (omega arith)))
+      (λ e. rw e (to (walk (passes u (last-row (eqb-true (c .other) n e)))) (omega arith)))
+      (λ e. rw e (to (walk (passes u (next-row (eqb-false (c .other) n e)))) (omega arith)))
 
   abbrev StepTaken : Claimant → Type 0
   StepTaken c = Taken n k i at c (stepped (placeAt (c .place)) n k i (valueIn (reads c) (at (rowRead (reads c)))) c)
 
   -- The places 1 to 9, and 11 and 12, in their order.
   to-the-inside : (c : Claimant) → Each (λ p. StepTaken (placed p c)) 1 9
-  unfolding placeAt reads readAt valueIn rowRead stepped passed numberOf
+  unfolding placeAt reads readAt stepped passed
   to-the-inside c =
       let o = c .other in
       let m = c .seen in
@@ -169,32 +203,32 @@ module _ (n : ℕ) (k : Terms) (i : ℕ) (at : ℕ → Claimant) where
       let x = at o .choosing in
       let s = at o .session in
       let v = at o .token in
-      to signs (omega arith)
-      & to raises (omega arith)
+      to (edge signs) (omega arith)
+      & to (choice raises) (omega arith)
       & decide (eqb o n)
-      (λ e. rw e (to (scans (last-row (eqb-true o n e))) (omega arith)))
-      (λ e. rw e (to (scans (next-row (eqb-false o n e))) (omega arith)))
+      (λ e. rw e (to (choice (scans (last-row (eqb-true o n e)))) (omega arith)))
+      (λ e. rw e (to (choice (scans (next-row (eqb-false o n e)))) (omega arith)))
       & decide (ltb m (k .ceiling))
-      (λ e. rw e (to (takes (ltb-true m (k .ceiling) e)) (omega arith)))
-      (λ e. rw e (record { move = turned-away (ltb-false m (k .ceiling) e); small = omega arith }))
-      & to lowers (omega arith)
+      (λ e. rw e (to (choice (takes (ltb-true m (k .ceiling) e))) (omega arith)))
+      (λ e. rw e (record { move = edge (turned-away (ltb-false m (k .ceiling) e)); small = omega arith }))
+      & to (walk lowers) (omega arith)
       & decide (eqb x 0)
-      (λ e. rw e (to (clears (no-chooser (eqb-true x 0 e))) (omega arith)))
-      (λ e. rw e (to (stays (sees-chooser (eqb-false x 0 e))) (omega arith)))
+      (λ e. rw e (to (walk (clears (no-chooser (eqb-true x 0 e)))) (omega arith)))
+      (λ e. rw e (to (walk (stays (sees-chooser (eqb-false x 0 e)))) (omega arith)))
       & decide (conflict s w)
-      (λ e. rw e (to (stays (sees-conflict (conflict-true s w e))) (omega arith)))
-      (λ e. rw e (to (clears (no-conflict (conflict-false s w e))) (omega arith)))
+      (λ e. rw e (to (walk (stays (sees-conflict (conflict-true s w e)))) (omega arith)))
+      (λ e. rw e (to (walk (clears (no-conflict (conflict-false s w e)))) (omega arith)))
       & decide (eqb v 0 or before (c .token) i v o)
       (λ e. rw e (passing c (by-token (ahead (c .token) v o e))))
-      (λ e. rw e (to (stays (halts (not-ahead (c .token) v o e))) (omega arith)))
+      (λ e. rw e (to (walk (stays (halts (not-ahead (c .token) v o e)))) (omega arith)))
       & decide (conflict s w)
-      (λ e. rw e (to (stays (stays-halted (conflict-true s w e))) (omega arith)))
+      (λ e. rw e (to (walk (stays (stays-halted (conflict-true s w e)))) (omega arith)))
       (λ e. rw e (passing c (by-session (conflict-false s w e))))
       & tt
 
   to-rest : (c : Claimant) → Each (λ p. StepTaken (placed p c)) 11 2
-  unfolding placeAt reads readAt valueIn rowRead stepped numberOf
-  to-rest c = to (closes drops-token) (omega arith) & to (closes drops-session) (omega arith) & tt
+  unfolding placeAt reads readAt stepped
+  to-rest c = to (edge drops-token) (omega arith) & to (edge drops-session) (omega arith) & tt
 
   pub step-taken : (c : Claimant) → c .place ≤ 12 → c .place ≢ 0 → c .place ≢ 10
       → Taken n k i at c (stepped (placeAt (c .place)) n k i (valueIn (reads c) (at (rowRead (reads c)))) c)

@@ -1,5 +1,5 @@
 -- The records of a table by their numbers: where one was set, in an opened table, in a sound one.
-use mathlib.Core.Path.{_≡_, refl, sym, ap, _∙_}
+use mathlib.Core.Path.{_≡_, refl, ap, _∙_}
 use mathlib.Core.Bool.{true}
 use mathlib.Core.List.{List, [], _∷_, _++_}
 use mathlib.Core.Logic.{_≢_}
@@ -11,7 +11,6 @@ use lib.Dec.{leb}
 use lib.ListN.{getD, length, set, replicate, length-replicate, List·getD-eq-default}
 use lib.Seq.{getD-set-same, getD-set-other, set-getD}
 use borrow.Author.Tests.{leb-true, leb-false}
-use Rattle.rules.specs.Tests.{_and_}
 use Rattle.rules.specs.Records.{blank}
 use Rattle.rules.specs.Places.{rows, wellFormed}
 use Rattle.rules.specs.Tables.{Table, opened, recordOf, allWellFormed, called, after, Opens, Sound}

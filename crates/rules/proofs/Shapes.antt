@@ -1,6 +1,6 @@
 -- What a well-formed record holds at each place: 01's table of thirteen rows as facts on numbers.
 use mathlib.Core.Path.{_≡_, refl}
-use mathlib.Core.Bool.{Bool, true}
+use mathlib.Core.Bool.{true}
 use Prim.Native.Nat.{ℕ, zero, suc, _+_, _≤_, _<_}
 use native.Mathlib.Omega.{arith}
 use lib.Dec.{eqb, leb}
@@ -45,7 +45,6 @@ pub record Formed (n : ℕ) (k : Terms) (c : Claimant) : Type 0 where
   pub fields : Fits (rowAt (c .place)) n k (c .choosing) (c .session) (c .token) (c .want) (c .other) (c .seen)
 
 allowed : (a : Kind) (n : ℕ) (k : Terms) (w x : ℕ) → allows a n k w x ≡ true → Allowed a n k w x
-unfolding allows
 allowed Zero n k w x e = eqb-true x 0 e
 allowed One n k w x e = eqb-true x 1 e
 allowed SomeSession n k w x e = within-true 1 65535 x e
@@ -55,7 +54,6 @@ allowed UpToCeiling n k w x e = leb-true x (k .ceiling) e
 allowed OneToCeiling n k w x e = within-true 1 (k .ceiling) x e
 
 allows-it : (a : Kind) (n : ℕ) (k : Terms) (w x : ℕ) → Allowed a n k w x → allows a n k w x ≡ true
-unfolding allows
 allows-it Zero n k w x h = eq-eqb x 0 h
 allows-it One n k w x h = eq-eqb x 1 h
 allows-it SomeSession n k w x h = within-holds 1 65535 x (h .0) (h .1)

@@ -1,0 +1,12 @@
+pub mod Awareness
+pub mod Passing
+pub mod Exclusion
+pub mod Lateness
+pub mod Steps
+pub mod Overtaking
+pub mod Computing
+pub mod Witnesses
+pub mod OneRegister
+pub mod Waiting
+pub mod Alone
+pub mod Leaving
