@@ -7,7 +7,7 @@ pub use native.Mathlib.Omega.{arith}
 pub use mathlib.Core.Bool.{not}
 pub use mathlib.Core.List.{List, [], _∷_, _++_}
 pub use lib.ListN.{length, getD, set, drop, replicate, length-set, length-replicate}
-pub use mir.Syntax.{w8, w32, w64}
+pub use mir.Syntax.{w8, w16, w32, w64}
 pub use mir.Val.{vint}
 pub use base.Fml.{Lft, Share}
 pub use types.Kit.{ ! }
@@ -23,6 +23,7 @@ pub use Rattle.walks.proofs.Slices.{type-of, reads, reads-mut, reads-by
 pub use Rattle.walks.proofs.Calls.{makes, shows-fact}
 pub use Rattle.walks.proofs.Hand.{calls-holding}
 pub use Rattle.walks.proofs.Lend.{calls-mut, renamed}
+pub use Rattle.walks.proofs.Show.{calls-seeing, calls-copying}
 pub use Rattle.walks.proofs.Arrays.{array-fits, part, calls-part}
 pub use Rattle.walks.proofs.Close.{Site, Params, Function, by-value, shared, mutable, given-up, Walk, walks, returns, site, closes, always}
 pub use Rattle.walks.proofs.Callees.{Meets, Callee, calls-to, knows}

@@ -42,19 +42,20 @@ abbrev pub renamed : {X : Type 0} → RefT X → GName → RefT X
 renamed x γ = record { ptr = x .ptr; name = γ; now = x .now }
 
 -- ---- lists of holds
-hold-swap : (Γ : List Hold) (n : ℕ) (κ : Lft) (q : Share) (D : Elem) (x : RefT (List (D .R .Denot))) (ys : List (D .R .Denot)) (h : Hold) → hold Γ n ≡ mut κ q D x ys → hold (swap Γ n h) n ≡ h
-hold-swap [] n κ q D x ys h e = absurd (subst Other e tt)
-  where
-    Other : Hold → Type 0
-    Other (val D a) = Unit {0}
-    Other (shr κ q D x) = Unit {0}
-    Other (mut κ q D x ys) = ⊥
-    Other (gave κ q D x zs) = Unit {0}
-    Other (other P) = Unit {0}
-hold-swap (g ∷ Γ) zero κ q D x ys h e = refl
-hold-swap (g ∷ Γ) (suc n) κ q D x ys h e = hold-swap Γ n κ q D x ys h e
+-- no `other`: what a list of holds does not have is `other`
+abbrev pub Slot : Hold → Type 0
+Slot (val D a) = Unit {0}
+Slot (shr κ q D x) = Unit {0}
+Slot (mut κ q D x ys) = Unit {0}
+Slot (gave κ q D x zs) = Unit {0}
+Slot (other P) = ⊥
 
-swap-swap : (Γ : List Hold) (n : ℕ) (h h′ : Hold) → swap (swap Γ n h) n h′ ≡ swap Γ n h′
+pub hold-swap : (Γ : List Hold) (n : ℕ) (g h : Hold) → Slot g → hold Γ n ≡ g → hold (swap Γ n h) n ≡ h
+hold-swap [] n g h there e = absurd (subst Slot (sym e) there)
+hold-swap (g₀ ∷ Γ) zero g h there e = refl
+hold-swap (g₀ ∷ Γ) (suc n) g h there e = hold-swap Γ n g h there e
+
+pub swap-swap : (Γ : List Hold) (n : ℕ) (h h′ : Hold) → swap (swap Γ n h) n h′ ≡ swap Γ n h′
 swap-swap [] n h h′ = refl
 swap-swap (g ∷ Γ) zero h h′ = refl
 swap-swap (g ∷ Γ) (suc n) h h′ = ap (λ (Δ : List Hold). g ∷ Δ) (swap-swap Γ n h h′)
@@ -93,7 +94,7 @@ module _ (D : Elem) (κ κ′ : Lft) (q : Share) (x : RefT (List (D .R .Denot)))
 -- ---- the rule
 module _ {M : Type 1} (𝓤 : URA M) (H : Heap 𝓤) (A : Atoms 𝓤) (W : Given 𝓤 H A) where
   -- what a plain argument's token would be: there is none
-  only : (hs Γ : List Hold) → ent 𝓤 (⋆ 𝓤 H A (items (hs ++ Γ))) (⋆ 𝓤 H A (items Γ))
+  pub only : (hs Γ : List Hold) → ent 𝓤 (⋆ 𝓤 H A (items (hs ++ Γ))) (⋆ 𝓤 H A (items Γ))
   only hs Γ = subst (λ (Δ : List (Item 𝓤)). ent 𝓤 (⋆ 𝓤 H A Δ) (⋆ 𝓤 H A (items Γ))) (sym (items-++ 𝓤 H A W hs Γ)) (via 𝓤 _ (⊢++ 𝓤 H A (items hs) (items Γ)) (snd∗ 𝓤 (⋆ 𝓤 H A (items hs)) (⋆ 𝓤 H A (items Γ))))
 
 module _ {M : Type 1} {𝓤 : URA M} {H : Heap 𝓤} {A : Atoms 𝓤} {K : Type 0} {W : Given 𝓤 H A} {𝓣 : Tables 𝓤 H} {E : List Local′} {ss : List Cell} {Γ : List Hold} {e : End 𝓤} {f : Name} {xs : List Operand} {d : ℕ} {rest : Body} where
@@ -133,7 +134,7 @@ module _ {M : Type 1} {𝓤 : URA M} {H : Heap 𝓤} {A : Atoms 𝓤} {K : Type 
         (under 𝓤 H A W (‵ P) (other (flft κ′ fullShare) ∷ (back hs ++ Γ′)) (other (flft κ′ fullShare) ∷ Γ′) (under 𝓤 H A W (‵ (flft κ′ fullShare)) (back hs ++ Γ′) Γ′ (only 𝓤 H A W (back hs) Γ′))))
         (let s : Seq K W (L′ ∷ ‵ P ∷ ‵ (flft κ′ fullShare) ∷ items Γ′) (runs (𝓣 .C) (𝓣 .Λ) E rest (ending A 𝓣 E e)) =
         move t (1 ∷ []) $ rewrite t 0 (λ (F : Fml). ‵ F) (contract κ′ γ₁ .4 ws .1) refl $ fsplit t $ fsplit t $ move t (2 ∷ []) $ drop t $ move t (1 ∷ []) $ feqL t (λ same.
-        move t (0 ∷ 2 ∷ []) $ join t $ join t $ focus t n Γ′ ((‵ (finally (D .R) γ₁ zs) ⊛ ‵ (flft κ′ fullShare)) ⊛ L′) (rewrite t 0 (λ (h : Hold). ‵ (formula h)) (hold-swap Γ n κ q D x ys (other (LentAgain D κ κ′ q x ys γ₁)) is) refl $
+        move t (0 ∷ 2 ∷ []) $ join t $ join t $ focus t n Γ′ ((‵ (finally (D .R) γ₁ zs) ⊛ ‵ (flft κ′ fullShare)) ⊛ L′) (rewrite t 0 (λ (h : Hold). ‵ (formula h)) (hold-swap Γ n (mut κ q D x ys) (other (LentAgain D κ κ′ q x ys γ₁)) tt is) refl $
         move t (1 ∷ []) $ split t $ split t $ move t (1 ∷ []) $ lft-end t tt $ move t (0 ∷ 3 ∷ 1 ∷ []) $
         use3 W (later (‵ (owned-of (mut κ q D x zs)) ⊛ ‵ (flft κ q))) (comes-back D κ κ′ q x ys 𝓤 H A W γ₁ zs facts same) $ await t tt $ split t $ fjoin t $ unfocus t n Γ′ L′ (mut κ q D x zs)
         (subst (λ (Δ : List Hold). Seq K W (L′ ∷ items Δ) (runs (𝓣 .C) (𝓣 .Λ) E rest (ending A 𝓣 E e))) (sym (swap-swap Γ n (other (LentAgain D κ κ′ q x ys γ₁)) (mut κ q D x zs))) (k (to κ′ γ₁ r) zs said same rs .prf)))) in s .prf))) .prf)))))));

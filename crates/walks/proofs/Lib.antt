@@ -58,7 +58,7 @@
 --         always 𝓤 (walks S (Γ S (κs .0) (qs .0) (a .0) (a .1 .0) (now (a .0))) code.function _ _ typed (walk S (κs .0) (qs .0) (a .0) (a .1 .0) (knows ..) (knows ..) (are .0 .0 .1 .0))))
 --
 -- WHICH RULE. `_i = ..`: `sets`. A branch: `ifs-below` (`i < n`), `ifs`. A loop: `loops`, then `whiles-below` or `whiles` at its head and `again` for its last statement; it carries a state of your choice, whose measure falls.
--- An element: `reads` (of `&[S]`), `reads-mut`, `writes`, and `reads-byte`, `writes-byte` of bytes. A call: by value `calls-to`; a `&mut` slice lent for the call, `calls-mut`; a `&[S]`, or a `&mut` not used again, `calls-holding`; a part of a local array, `calls-part`.
+-- An element: `reads` (of `&[S]`), `reads-mut`, `writes`, and `reads-byte`, `writes-byte` of bytes. A call: by value `calls-to`; of a function that takes a `&[S]` first, `calls-copying` from a `&[S]` and `calls-seeing` from a `&mut [S]`; a `&mut` slice lent for the call, `calls-mut`; a `&mut` handed on and not used again, `calls-holding`; a part of a local array, `calls-part`.
 -- A local is forgotten with `forgets`, a hold let go with `drops` and a plain one made anew with `makes`.
 --
 -- THE MODULES, from the ground up.
@@ -71,6 +71,7 @@ pub mod Below
 pub mod Calls
 pub mod Hand
 pub mod Lend
+pub mod Show
 pub mod Arrays
 pub mod Close
 pub mod Callees
