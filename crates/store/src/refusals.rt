@@ -66,7 +66,7 @@ fn outside(n: usize, number: u32) -> bool
     ensures { λ r. ⌜ r ≡ not (within 1 n number) ⌝ }
 {
     let w = number as usize;
-    if 1 <= w { n < w } else { true }
+    if 1 <= w { !(w <= n) } else { true }
 }
 
 // The call, where the table does not bar it.

@@ -3,7 +3,7 @@ ghost use mathlib.Core.Path.{_≡_};
 ghost use mathlib.Core.Bool.{not};
 ghost use lib.Dec.{eqb};
 ghost use lib.IntN.{pos, _-ℤ_};
-ghost use Rattle.store.specs.Standings.{stands, standingRefusal, standingOn};
+ghost use Rattle.store.specs.Standings.{opposed, stands, standingOn};
 use crate::StandingAnswer;
 use crate::refusals;
 use rules::Claimant;
@@ -31,19 +31,26 @@ pub(crate) fn standing(
 fn stands(a: u32, b: u32, first: Claimant, second: Claimant) -> i64
     ensures { λ r. ⌜ r ≡ stands a b first second ⌝ }
 {
-    if first.token == 0 {
-        return 0;
-    }
-    if second.token == 0 {
-        return 0;
-    }
-    if !rules::conflict(first.session as u32, second.session as u32) {
+    if !opposed(first, second) {
         return 0;
     }
     if first.token == second.token {
         return difference(a, b);
     }
     difference(first.token, second.token)
+}
+
+// Both claims have a token, and their sessions conflict.
+fn opposed(first: Claimant, second: Claimant) -> bool
+    ensures { λ r. ⌜ r ≡ opposed first second ⌝ }
+{
+    if first.token == 0 {
+        return false;
+    }
+    if second.token == 0 {
+        return false;
+    }
+    rules::conflict(first.session as u32, second.session as u32)
 }
 
 fn difference(a: u32, b: u32) -> i64
