@@ -1,0 +1,9 @@
+pub mod Words
+pub mod Numerals
+pub mod Layout
+pub mod Pieces
+pub mod Lines
+pub mod Reading
+pub mod Writing
+pub mod Report
+pub mod Promises
