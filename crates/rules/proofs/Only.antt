@@ -22,8 +22,6 @@ use Rattle.rules.proofs.Register.row.Kinds as register-row-kinds
 use Rattle.rules.proofs.Register.row.Reads as register-row-reads
 use Rattle.rules.proofs.Register.value.Kinds as register-value-kinds
 use Rattle.rules.proofs.Register.value.Reads as register-value-reads
-use Rattle.rules.proofs.Register.holds.Kinds as register-holds-kinds
-use Rattle.rules.proofs.Register.holds.Reads as register-holds-reads
 use Rattle.rules.proofs.Answer.number.Kinds as answer-number-kinds
 use Rattle.rules.proofs.Answer.number.Reads as answer-number-reads
 use Rattle.rules.proofs.Answer.byte.Kinds as answer-byte-kinds
@@ -64,9 +62,6 @@ only-register-row κs a x y s t p q = same p q
 
 pub only-register-value : Only 0 register-value-kinds.ps register-value-kinds.r register-value-reads.Post
 only-register-value κs a x y s t p q = same p q
-
-pub only-register-holds : Only 0 register-holds-kinds.ps register-holds-kinds.r register-holds-reads.Post
-only-register-holds κs a x y s t p q = same p q
 
 pub only-answer-number : Only 0 answer-number-kinds.ps answer-number-kinds.r answer-number-reads.Post
 only-answer-number κs a x y s t p q = same p q

@@ -46,7 +46,7 @@ impl Register {
     }
 
     // Whether such a register can hold the value.
-    pub fn holds(self, terms: Terms, value: u32) -> bool
+    pub(crate) fn holds(self, terms: Terms, value: u32) -> bool
         ensures { λ r. ⌜ r ≡ holds self terms value ⌝ }
     {
         match self {
