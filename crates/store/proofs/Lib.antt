@@ -13,3 +13,4 @@ pub mod Elements
 pub mod Values
 pub mod Looks
 pub mod Enters
+pub mod Only

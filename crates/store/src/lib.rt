@@ -96,10 +96,10 @@ pub fn open(rows: &mut [Claimant], terms: Terms) -> Outcome
         return refusals::outcome(refusal);
     }
     let blank = Claimant::blank();
-    let mut i = 0;
-    while i < rows.len() {
-        rows[i] = blank;
-        i += 1;
+    let mut row = 0;
+    while row < rows.len() {
+        rows[row] = blank;
+        row += 1;
     }
     refusals::outcome(0)
 }
