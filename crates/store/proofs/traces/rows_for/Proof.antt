@@ -1,3 +1,4 @@
+-- `rows_for` meets its contract: by the test of the limit.
 use borrow.Author.Tests.{lt-ltb, le-ltb}
 use Rattle.store.specs.Trials.{rowsFor}
 use Rattle.store.proofs.traces.rows_for.Statement.{statement}
