@@ -1,0 +1,4 @@
+-- Laws on plain lists and numbers, for the proofs of this crate's functions and theorems.
+pub mod Choices
+pub mod Words
+pub mod Digits

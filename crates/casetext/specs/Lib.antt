@@ -1,0 +1,5 @@
+pub mod Words
+pub mod Numerals
+pub mod Pieces
+pub mod Lines
+pub mod Reading

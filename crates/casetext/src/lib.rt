@@ -1,0 +1,20 @@
+// Case texts: the reader, which takes any bytes at all, and what `boardcase` prints of them.
+//
+// The layout is defined by writing (specs/Layout.antt): a line is the text of what it says.
+mod lines;
+mod pieces;
+mod reader;
+
+pub use reader::read;
+
+// What a reader finds at a place: a number, with the place past its text, or a text that breaks the layout.
+pub enum Found {
+    Is { value: u32, next: usize },
+    Broken,
+}
+
+// What a case text says: the two numbers and how many entries it has, or the number of a refusal with its line, 0 if it has none.
+pub enum Reading {
+    Case { claimants: u32, ceiling: u32, count: usize },
+    Refused { number: u8, line: usize },
+}
