@@ -8,9 +8,11 @@ use mathlib.Core.Bool.{Bool, true, false}
 use mathlib.Core.List.{List, [], _∷_, _++_}
 use lib.ListN.{length, getD, drop, drop-of-length-le}
 use lib.Seq.{drop-cons}
-use borrow.Author.Tests.{lt-ltb, le-ltb, le-leb, lt-leb}
+use lib.Dec.{eqb, leb}
+use borrow.Author.Tests.{lt-ltb, le-ltb, le-leb, lt-leb, leb-true}
 use Rattle.casetext.specs.Words.{pick}
-use Rattle.casetext.specs.Pieces.{digitsFrom, isDigit}
+use Rattle.casetext.specs.Pieces.{begins, digitsFrom, isDigit, numberAt, fieldAt}
+use Rattle.casetext.proofs.Choices.{decide, not-found}
 use Rattle.casetext.specs.declared.Found.{Found}
 use Rattle.casetext.specs.declared.Found.the-variants.{Is, Broken}
 
@@ -42,3 +44,28 @@ module _ (most v : ℕ) (s : List ℕ) (at : ℕ) where
           → digitsFrom most v at (drop at s) ≡ digitsFrom most (v * 10 + (getD s at 0 - 48)) (at + 1) (drop (at + 1) s)
       unfolding digitsFrom
       digits-more m = rw (add-one at, drop-cons s at 0 h, e, le-leb _ _ m)
+
+-- what was found is in range
+pub digits-most : (most v at : ℕ) (l : List ℕ) {n next : ℕ} → v ≤ most → digitsFrom most v at l ≡ Is n next → n ≤ most
+unfolding digitsFrom
+digits-most most v at [] {n} h e = let z : v ≡ n = cc in omega arith
+digits-most most v at (b ∷ bs) {n} h e =
+    decide (isDigit b)
+    (λ d. decide (leb (v * 10 + (b - 48)) most)
+    (λ m. digits-most most (v * 10 + (b - 48)) (suc at) bs (leb-true _ _ m) (rw (d, m) at e))
+    (λ m. not-found (rw (d, m) at e)))
+    (λ d. let f : Is v at ≡ Is n _ = rw d at e in let z : v ≡ n = cc in omega arith)
+
+pub number-most : (most : ℕ) (s : List ℕ) (at : ℕ) {n next : ℕ} → numberAt most s at ≡ Is n next → n ≤ most
+unfolding numberAt
+number-most most s at {n} e =
+    decide (eqb (getD s at 0) 48)
+    (λ z. let f : Is 0 (at + 1) ≡ Is n _ = rw z at e in let z : 0 ≡ n = cc in omega arith)
+    (λ z. decide (isDigit (getD s at 0))
+    (λ d. digits-most most 0 at (drop at s) (omega arith) (rw (z, d) at e))
+    (λ d. not-found (rw (z, d) at e)))
+
+pub field-most : (w : List ℕ) (most : ℕ) (s : List ℕ) (at : ℕ) {n next : ℕ} → fieldAt w most s at ≡ Is n next → n ≤ most
+unfolding fieldAt
+field-most w most s at e =
+    decide (begins w (drop at s)) (λ b. number-most most s (at + length w) (rw b at e)) (λ b. not-found (rw b at e))

@@ -15,6 +15,13 @@ pub enum Found {
 
 // What a case text says: the two numbers and how many entries it has, or the number of a refusal with its line, 0 if it has none.
 pub enum Reading {
-    Case { claimants: u32, ceiling: u32, count: usize },
-    Refused { number: u8, line: usize },
+    Case {
+        claimants: u32,
+        ceiling: u32,
+        count: usize,
+    },
+    Refused {
+        number: u8,
+        line: usize,
+    },
 }

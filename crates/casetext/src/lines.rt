@@ -16,7 +16,10 @@ fn line_end(text: &[u8], found: Found) -> Found
         Found::Broken => Found::Broken,
         Found::Is { value, next } => {
             if byte(text, next) == 10 {
-                Found::Is { value, next: next + 1 }
+                Found::Is {
+                    value,
+                    next: next + 1,
+                }
             } else {
                 Found::Broken
             }
@@ -39,7 +42,10 @@ fn called(text: &[u8], at: usize, kind: u8) -> Found
     match number(text, at, 255) {
         Found::Broken => Found::Broken,
         Found::Is { value, next } => {
-            Found::Is { value: kind as u32 * 16777216 + value * 65536, next }
+            Found::Is {
+                value: kind as u32 * 16777216 + value * 65536,
+                next,
+            }
         }
     }
 }
@@ -51,7 +57,10 @@ fn asked_by(text: &[u8], at: usize, who: u32) -> Found
 {
     match field(text, at, b" ", 65535) {
         Found::Broken => Found::Broken,
-        Found::Is { value, next } => Found::Is { value: 16777216 + who * 65536 + value, next },
+        Found::Is { value, next } => Found::Is {
+            value: 16777216 + who * 65536 + value,
+            next,
+        },
     }
 }
 

@@ -69,7 +69,10 @@ pub fn number(text: &[u8], at: usize, most: u32) -> Found
 {
     let b = byte(text, at);
     if b == 48 {
-        return Found::Is { value: 0, next: at + 1 };
+        return Found::Is {
+            value: 0,
+            next: at + 1,
+        };
     }
     if b < 49 {
         return Found::Broken;

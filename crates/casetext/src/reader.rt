@@ -10,7 +10,13 @@ use crate::lines::do_line;
 use crate::lines::line;
 
 // The do lines from a place on, of a case with these two numbers: their entries go into the first places of a draft.
-fn do_lines(text: &[u8], from: usize, claimants: u32, ceiling: u32, draft: &mut [u32; 2048]) -> Reading
+fn do_lines(
+    text: &[u8],
+    from: usize,
+    claimants: u32,
+    ceiling: u32,
+    draft: &mut [u32; 2048],
+) -> Reading
     ensures { λ r. ⌜ r ≡ told (doLines claimants ceiling 2048 (now (text .entry)) from 3) ⌝ }
     ensures { λ _. ⌜ Drafted (doLines claimants ceiling 2048 (now (text .entry)) from 3) (now (draft .exit)) ⌝ }
 {
@@ -20,11 +26,17 @@ fn do_lines(text: &[u8], from: usize, claimants: u32, ceiling: u32, draft: &mut 
         let found = do_line(text, at);
         match found {
             Found::Broken => {
-                return Reading::Refused { number: 12, line: count + 3 };
+                return Reading::Refused {
+                    number: 12,
+                    line: count + 3,
+                };
             }
             Found::Is { value, next } => {
                 if 2048 <= count {
-                    return Reading::Refused { number: 13, line: count + 3 };
+                    return Reading::Refused {
+                        number: 13,
+                        line: count + 3,
+                    };
                 }
                 draft[count] = value;
                 count += 1;
@@ -32,7 +44,11 @@ fn do_lines(text: &[u8], from: usize, claimants: u32, ceiling: u32, draft: &mut 
             }
         }
     }
-    Reading::Case { claimants, ceiling, count }
+    Reading::Case {
+        claimants,
+        ceiling,
+        count,
+    }
 }
 
 // A whole text, its entries into the first places of a draft.
@@ -41,13 +57,30 @@ pub fn drafted(text: &[u8], draft: &mut [u32; 2048]) -> Reading
     ensures { λ _. ⌜ Drafted (reading (now (text .entry))) (now (draft .exit)) ⌝ }
 {
     if 32768 < text.len() {
-        return Reading::Refused { number: 11, line: 0 };
+        return Reading::Refused {
+            number: 11,
+            line: 0,
+        };
     }
-    let Found::Is { value: claimants, next: second } = line(text, 0, b"claimants=", 4294967295) else {
-        return Reading::Refused { number: 12, line: 1 };
+    let Found::Is {
+        value: claimants,
+        next: second,
+    } = line(text, 0, b"claimants=", 4294967295)
+    else {
+        return Reading::Refused {
+            number: 12,
+            line: 1,
+        };
     };
-    let Found::Is { value: ceiling, next: third } = line(text, second, b"ceiling=", 4294967295) else {
-        return Reading::Refused { number: 12, line: 2 };
+    let Found::Is {
+        value: ceiling,
+        next: third,
+    } = line(text, second, b"ceiling=", 4294967295)
+    else {
+        return Reading::Refused {
+            number: 12,
+            line: 2,
+        };
     };
     do_lines(text, third, claimants, ceiling, draft)
 }
@@ -71,11 +104,18 @@ pub fn read(text: &[u8], entries: &mut [u32]) -> Reading
     ensures { λ _. ⌜ now (entries .exit) ≡ rowAfter (readInto (now (entries .entry)) (now (text .entry))) (now (entries .entry)) ⌝ }
 {
     if entries.len() < 2048 {
-        return Reading::Refused { number: 10, line: 0 };
+        return Reading::Refused {
+            number: 10,
+            line: 0,
+        };
     }
     let mut draft = [0u32; 2048];
     let said = drafted(text, &mut draft);
-    if let Reading::Case { claimants: _, ceiling: _, count } = said {
+    if let Reading::Case {
+        claimants: _,
+        ceiling: _,
+        count,
+    } = said {
         copied(&draft, count, entries);
     }
     said

@@ -1,4 +1,10 @@
+-- `casetext::lines::ask` meets its contract. Assumes nothing.
 use borrow.Author.Needs.{needs}
+use native.Mathlib.Omega.{arith}
+use mathlib.Core.Path.{sym, ap, _∙_}
+use denote.Ref.{now}
+use Rattle.casetext.specs.Lines.{askAt, thenSession}
+use Rattle.casetext.proofs.Digits.{number-most}
 use Rattle.casetext.proofs.lines.ask.Statement.{statement}
 use Rattle.casetext.proofs.lines.ask.Tie as tie
 use Rattle.casetext.proofs.lines.ask.Reads as reads
@@ -16,13 +22,15 @@ enum-known-value : tie.Need-enum-known-value
 enum-known-value c = search needs
 
 asked-by-requires : tie.Need-asked-by-requires
-asked-by-requires c κs = ?
+asked-by-requires c κs = number-most 255 (now (c .before .before .before .before .before .args .text)) (c .before .before .before .before .before .args .at) (sym (c .before .before .before .number .ensures) ∙ c .before .value .given .1)
 
 returns : tie.Need-returns
-returns c = ?
+unfolding askAt thenSession
+returns c = rw (sym (c .before .before .number .ensures) ∙ c .enum-told .given .1)
 
 returns-2 : tie.Need-returns-2
-returns-2 c = ?
+unfolding askAt thenSession
+returns-2 c = rw (sym (c .before .before .before .before .number .ensures) ∙ c .before .before .value .given .1) (c .asked-by .ensures)
 
 pub ask-spec : {M : Type 1} → statement M
 ask-spec =

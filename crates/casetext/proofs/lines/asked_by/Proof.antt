@@ -1,4 +1,11 @@
+-- `casetext::lines::asked_by` meets its contract: the session found is at most 65,535, so the entry fits. Assumes nothing.
 use borrow.Author.Needs.{needs}
+use native.Mathlib.Omega.{arith}
+use mathlib.Core.Path.{sym, ap, _∙_}
+use denote.Ref.{now}
+use Rattle.casetext.specs.Lines.{withSession, askedBy}
+use Rattle.casetext.specs.Words.{ascii}
+use Rattle.casetext.proofs.Digits.{field-most}
 use Rattle.casetext.proofs.lines.asked_by.Statement.{statement}
 use Rattle.casetext.proofs.lines.asked_by.Tie as tie
 use Rattle.casetext.proofs.lines.asked_by.Reads as reads
@@ -24,13 +31,17 @@ add-t12 : tie.Need-add-t12
 add-t12 c = search needs
 
 add-t13 : tie.Need-add-t13
-add-t13 c = ?
+add-t13 c =
+    let a = c .before .before .before .before .before .before .args in
+    omega (arith, field-most (ascii " ") 65535 (now (a .text)) (a .at) (sym (c .before .before .before .field .ensures) ∙ c .before .value .given .1))
 
 returns : tie.Need-returns
-returns c = ?
+unfolding askedBy withSession
+returns c = rw (sym (c .before .before .field .ensures) ∙ c .enum-told .given .1)
 
 returns-2 : tie.Need-returns-2
-returns-2 c = ?
+unfolding askedBy withSession
+returns-2 c = rw (sym (c .before .before .before .field .ensures) ∙ c .before .value .given .1)
 
 pub asked-by-spec : {M : Type 1} → statement M
 asked-by-spec =

@@ -1,4 +1,10 @@
+-- `casetext::lines::called` meets its contract: the claimant found is at most 255, so the entry fits. Assumes nothing.
 use borrow.Author.Needs.{needs}
+use native.Mathlib.Omega.{arith}
+use mathlib.Core.Path.{sym, ap, _∙_}
+use denote.Ref.{now}
+use Rattle.casetext.specs.Lines.{ofKind, calledAt}
+use Rattle.casetext.proofs.Digits.{number-most}
 use Rattle.casetext.proofs.lines.called.Statement.{statement}
 use Rattle.casetext.proofs.lines.called.Tie as tie
 use Rattle.casetext.proofs.lines.called.Reads as reads
@@ -18,16 +24,18 @@ mul-t9 : tie.Need-mul-t9
 mul-t9 c = search needs
 
 mul-t10 : tie.Need-mul-t10
-mul-t10 c = ?
+mul-t10 c = omega (arith, number-most 255 (now (c .before .before .before .before .before .args .text)) (c .before .before .before .before .before .args .at) (sym (c .before .before .before .number .ensures) ∙ c .before .value .given .1))
 
 add-t11 : tie.Need-add-t11
-add-t11 c = ?
+add-t11 c = omega (arith, number-most 255 (now (c .before .before .before .before .before .args .text)) (c .before .before .before .before .before .args .at) (sym (c .before .before .before .number .ensures) ∙ c .before .value .given .1))
 
 returns : tie.Need-returns
-returns c = ?
+unfolding calledAt ofKind
+returns c = rw (sym (c .before .before .number .ensures) ∙ c .enum-told .given .1)
 
 returns-2 : tie.Need-returns-2
-returns-2 c = ?
+unfolding calledAt ofKind
+returns-2 c = rw (sym (c .before .before .before .number .ensures) ∙ c .before .value .given .1)
 
 pub called-spec : {M : Type 1} → statement M
 called-spec =

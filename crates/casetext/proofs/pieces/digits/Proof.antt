@@ -61,9 +61,11 @@ loop-again : tie.Need-loop-again Inv-loop μ-loop
 loop-again c =
     let l = c .before .before .before .before .before .before .loop in
     let a = c .before .before .before .before .before .before .before .before .args in
-    let d = getD (now (a .text)) (l .next) 0 in
-    (omega arith, rw (c .before .with-digit .ensures)
-    (sym (digits-more (a .most) (l .value) (now (a .text)) (l .next) (omega arith) (is-digit d (omega arith) (omega arith)) (omega arith)) ∙ l .inv .1))
+    let d = getD (now (a .text)) (l .next) 0 in (
+      omega arith,
+      rw (c .before .with-digit .ensures)
+          (sym (digits-more (a .most) (l .value) (now (a .text)) (l .next) (omega arith) (is-digit d (omega arith) (omega arith)) (omega arith)) ∙ l .inv .1),
+    )
 
 returns-4 : tie.Need-returns-4 Inv-loop μ-loop
 returns-4 c =
