@@ -2,3 +2,4 @@
 pub mod Choices
 pub mod Words
 pub mod Digits
+pub mod Gathering

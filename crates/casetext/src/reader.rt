@@ -1,8 +1,8 @@
 // The reader of case texts.
 ghost use mathlib.Core.Path.{_≡_};
 ghost use Prim.Native.Nat.{_≤_};
-ghost use lib.ListN.{length};
-ghost use lib.Seq.{paste};
+ghost use mathlib.Core.List.{_++_};
+ghost use lib.ListN.{length, take, drop};
 ghost use Rattle.casetext.specs.Reading.{doLines, reading, readInto, told, Drafted, rowAfter};
 use crate::Found;
 use crate::Reading;
@@ -15,8 +15,9 @@ fn do_lines(
     from: usize,
     claimants: u32,
     ceiling: u32,
-    draft: &mut [u32; 2048],
+    draft: &mut [u32],
 ) -> Reading
+    requires { ⌜ 2048 ≤ length (now draft) ⌝ }
     ensures { λ r. ⌜ r ≡ told (doLines claimants ceiling 2048 (now (text .entry)) from 3) ⌝ }
     ensures { λ _. ⌜ Drafted (doLines claimants ceiling 2048 (now (text .entry)) from 3) (now (draft .exit)) ⌝ }
 {
@@ -52,7 +53,8 @@ fn do_lines(
 }
 
 // A whole text, its entries into the first places of a draft.
-pub fn drafted(text: &[u8], draft: &mut [u32; 2048]) -> Reading
+pub fn drafted(text: &[u8], draft: &mut [u32]) -> Reading
+    requires { ⌜ 2048 ≤ length (now draft) ⌝ }
     ensures { λ r. ⌜ r ≡ told (reading (now (text .entry))) ⌝ }
     ensures { λ _. ⌜ Drafted (reading (now (text .entry))) (now (draft .exit)) ⌝ }
 {
@@ -86,10 +88,10 @@ pub fn drafted(text: &[u8], draft: &mut [u32; 2048]) -> Reading
 }
 
 // The first `count` entries of a draft into a row that has room for a whole one.
-fn copied(draft: &[u32; 2048], count: usize, entries: &mut [u32])
-    requires { ⌜ count ≤ 2048 ⌝ }
-    requires { ⌜ 2048 ≤ length (now entries) ⌝ }
-    ensures { λ _. ⌜ now (entries .exit) ≡ paste (now (entries .entry)) 0 (now (draft .entry)) count ⌝ }
+fn copied(draft: &[u32], count: usize, entries: &mut [u32])
+    requires { ⌜ count ≤ length (now draft) ⌝ }
+    requires { ⌜ count ≤ length (now entries) ⌝ }
+    ensures { λ _. ⌜ now (entries .exit) ≡ take count (now (draft .entry)) ++ drop count (now (entries .entry)) ⌝ }
 {
     let mut i = 0;
     while i < count {

@@ -1,44 +1,61 @@
+-- `casetext::reader::copied` meets its contract. The invariant: the first i places hold the draft's. Assumes nothing.
 use borrow.Author.Needs.{needs}
+use Prim.Native.Nat.{_-_, _≤_}
+use native.Mathlib.Omega.{arith}
+use mathlib.Core.Path.{_≡_, refl, sym, _∙_}
+use mathlib.Core.List.{_++_}
+use lib.ListN.{length, take, drop, length-set}
+use denote.Ref.{now}
+use Rattle.casetext.proofs.Gathering.{copied-more}
 use Rattle.casetext.proofs.reader.copied.Statement.{statement}
 use Rattle.casetext.proofs.reader.copied.Tie as tie
 use Rattle.casetext.proofs.reader.copied.Reads as reads
 use Rattle.casetext.proofs.reader.copied.Lts as lts
 
 abbrev Inv-loop : tie.InvT-loop
-Inv-loop draft count entries₀ i₀ entries i = ?
+Inv-loop draft count entries₀ i₀ entries i =
+    (i ≤ count) × (length entries ≡ length entries₀) × (entries ≡ take i draft ++ drop i entries₀)
 
 abbrev μ-loop : tie.MeasureT-loop
-μ-loop draft count entries₀ i₀ entries i = ?
+μ-loop draft count entries₀ i₀ entries i = count - i
 
 loop-holds : tie.Need-loop-holds Inv-loop μ-loop
-loop-holds c = ?
+loop-holds c = (omega arith, refl, refl)
 
 mul-entries : tie.Need-mul-entries Inv-loop μ-loop
-mul-entries c = ?
+mul-entries c = omega arith
 
-element-copy-out-entries : tie.Need-element-copy-out-entries Inv-loop μ-loop
-element-copy-out-entries c = ?
+shared-slice-read-entries : tie.Need-shared-slice-read-entries Inv-loop μ-loop
+shared-slice-read-entries c = omega arith
 
 mul-entries-2 : tie.Need-mul-entries-2 Inv-loop μ-loop
-mul-entries-2 c = ?
+mul-entries-2 c = omega arith
 
 slice-write-entries : tie.Need-slice-write-entries Inv-loop μ-loop
-slice-write-entries c = ?
+slice-write-entries c = omega arith
 
 add-i : tie.Need-add-i Inv-loop μ-loop
-add-i c = ?
+add-i c = omega arith
 
 loop-less : tie.Need-loop-less Inv-loop μ-loop
-loop-less c = ?
+loop-less c = omega arith
 
 loop-again : tie.Need-loop-again Inv-loop μ-loop
-loop-again c = ?
+loop-again c =
+    let l = c .before .before .loop in
+    let a = c .before .before .before .args in
+    (omega arith, length-set (l .entries) (l .i) _ ∙ l .inv .1,
+    rw (l .inv .2) (copied-more (now (a .draft)) (now (a .entries)) (l .i) (omega arith) (omega arith)))
 
 same-length : tie.Need-same-length Inv-loop μ-loop
-same-length c = ?
+same-length c = c .before .loop .inv .1
 
 returns : tie.Need-returns Inv-loop μ-loop
-returns c = ?
+returns c =
+    let l = c .before .loop in
+    let a = c .before .before .args in
+    let e : l .i ≡ a .count = omega arith in
+    rw (← e) (l .inv .2)
 
 pub copied-spec : {M : Type 1} → statement M
 copied-spec =
@@ -48,7 +65,7 @@ copied-spec =
     μ-loop
     loop-holds
     mul-entries
-    element-copy-out-entries
+    shared-slice-read-entries
     mul-entries-2
     slice-write-entries
     add-i

@@ -1,0 +1,68 @@
+use borrow.Author.Needs.{needs}
+use Rattle.casetext.proofs.reader.drafted.Statement.{statement}
+use Rattle.casetext.proofs.reader.drafted.Tie as tie
+use Rattle.casetext.proofs.reader.drafted.Reads as reads
+use Rattle.casetext.proofs.reader.drafted.Lts as lts
+use Rattle.casetext.proofs.lines.line.Reads as line-reads
+use Rattle.casetext.proofs.reader.do_lines.Reads as do-lines-reads
+
+returns : tie.Need-returns
+returns c = ?
+
+slice-aggregate-line : tie.Need-slice-aggregate-line
+slice-aggregate-line c = search needs
+
+line-requires : tie.Need-line-requires
+line-requires c κs = search needs
+
+enum-known-claimants : tie.Need-enum-known-claimants
+enum-known-claimants c = search needs
+
+enum-told : tie.Need-enum-told
+enum-told c = search needs
+
+returns-2 : tie.Need-returns-2
+returns-2 c = ?
+
+slice-aggregate-line-2 : tie.Need-slice-aggregate-line-2
+slice-aggregate-line-2 c = search needs
+
+line-requires-2 : tie.Need-line-requires-2
+line-requires-2 c κs = search needs
+
+enum-known-ceiling : tie.Need-enum-known-ceiling
+enum-known-ceiling c = search needs
+
+enum-told-2 : tie.Need-enum-told-2
+enum-told-2 c = search needs
+
+returns-3 : tie.Need-returns-3
+returns-3 c = ?
+
+do-lines-requires : tie.Need-do-lines-requires
+do-lines-requires c κs = search needs
+
+same-length : tie.Need-same-length
+same-length c = search needs
+
+returns-4 : tie.Need-returns-4
+returns-4 c = ?
+
+pub drafted-spec : {M : Type 1} → statement M
+drafted-spec =
+    tie.close
+    (tie.spec
+    returns
+    slice-aggregate-line
+    line-requires
+    enum-known-claimants
+    enum-told
+    returns-2
+    slice-aggregate-line-2
+    line-requires-2
+    enum-known-ceiling
+    enum-told-2
+    returns-3
+    do-lines-requires
+    same-length
+    returns-4)
