@@ -6,11 +6,11 @@ use native.Mathlib.Nat.{sub-self}
 use native.Mathlib.Omega.{arith}
 use mathlib.Core.Path.{_≡_, refl, sym, ap, _∙_}
 use mathlib.Core.List.{List, [], _∷_, _++_, append-nil, append-assoc}
-use lib.ListN.{length, take, drop, set, getD, length-set}
+use lib.ListN.{length, take, drop, set, getD, length-set, length-take}
 use lib.Seq.{length-take-le, take-suc-set, drop-cons, set-at, append-snoc, take-suc}
-use borrow.Author.Tests.{le-leb, lt-leb}
+use borrow.Author.Tests.{le-leb, lt-leb, le-ltb}
 use Rattle.casetext.specs.Lines.{doLineAt}
-use Rattle.casetext.specs.Reading.{Said, before, onward, doLines, told, Drafted}
+use Rattle.casetext.specs.Reading.{Said, before, onward, doLines, reading, readInto, told, rowAfter, Drafted}
 use Rattle.casetext.specs.Reading.Said.{accepted, refused}
 use Rattle.casetext.specs.declared.Found.the-variants.{Is, Broken}
 use Rattle.casetext.specs.declared.Reading.{Reading}
@@ -100,3 +100,27 @@ copied-more s d i hs hd =
     let after = drop (suc i) d in
     rw (add-one i, drop-cons d i 0 hd, set-at (take i s) (getD d i 0) after v i (length-take-le i s (omega arith)), take-suc s i 0 hs)
     (sym (append-snoc (take i s) v after))
+
+-- What the answer tells of the text, and of the draft beside it.
+module _ {n k count : ℕ} (draft : List ℕ) where
+  pub told-count : (r : Said) → told r ≡ Case n k count → Drafted r draft → count ≤ length draft
+  unfolding told Drafted
+  told-count (accepted a b es) t d =
+      let z : length es ≡ count = cc in
+      omega (arith, simp length-take at (ap length d))
+  told-count (refused a b) t d = let z : _≡_ {A = ℕ} 0 1 = cc in absurd (omega arith)
+
+  pub told-row : (r : Said) (held : List ℕ) → told r ≡ Case n k count → Drafted r draft → take count draft ++ drop count held ≡ rowAfter r held
+  unfolding told Drafted rowAfter
+  told-row (accepted a b es) held t d = let z : length es ≡ count = cc in rw (← z, d)
+  told-row (refused a b) held t d = let z : _≡_ {A = ℕ} 0 1 = cc in absurd (omega arith)
+
+pub told-refused : (r : Said) {number line : ℕ} (held : List ℕ) → told r ≡ Refused number line → held ≡ rowAfter r held
+unfolding told rowAfter
+told-refused (accepted a b es) held t = let z : _≡_ {A = ℕ} 0 1 = cc in absurd (omega arith)
+told-refused (refused a b) held t = refl
+
+-- A row with room for every entry is read into.
+pub room-for-all : (row s : List ℕ) → 2048 ≤ length row → readInto row s ≡ reading s
+unfolding readInto
+room-for-all row s h = rw (le-ltb _ _ h)

@@ -10,13 +10,7 @@ use crate::lines::do_line;
 use crate::lines::line;
 
 // The do lines from a place on, of a case with these two numbers: their entries go into the first places of a draft.
-fn do_lines(
-    text: &[u8],
-    from: usize,
-    claimants: u32,
-    ceiling: u32,
-    draft: &mut [u32],
-) -> Reading
+fn do_lines(text: &[u8], from: usize, claimants: u32, ceiling: u32, draft: &mut [u32]) -> Reading
     requires { ⌜ 2048 ≤ length (now draft) ⌝ }
     ensures { λ r. ⌜ r ≡ told (doLines claimants ceiling 2048 (now (text .entry)) from 3) ⌝ }
     ensures { λ _. ⌜ Drafted (doLines claimants ceiling 2048 (now (text .entry)) from 3) (now (draft .exit)) ⌝ }

@@ -43,9 +43,11 @@ loop-less c = omega arith
 loop-again : tie.Need-loop-again Inv-loop μ-loop
 loop-again c =
     let l = c .before .before .loop in
-    let a = c .before .before .before .args in
-    (omega arith, length-set (l .entries) (l .i) _ ∙ l .inv .1,
-    rw (l .inv .2) (copied-more (now (a .draft)) (now (a .entries)) (l .i) (omega arith) (omega arith)))
+    let a = c .before .before .before .args in (
+      omega arith,
+      length-set (l .entries) (l .i) _ ∙ l .inv .1,
+      rw (l .inv .2) (copied-more (now (a .draft)) (now (a .entries)) (l .i) (omega arith) (omega arith)),
+    )
 
 same-length : tie.Need-same-length Inv-loop μ-loop
 same-length c = c .before .loop .inv .1

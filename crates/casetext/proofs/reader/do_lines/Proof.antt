@@ -64,9 +64,10 @@ loop-less c = omega arith
 
 loop-again : tie.Need-loop-again Inv-loop μ-loop
 loop-again c =
-    let l = c .before .before .before .before .before .before .loop in
-    (length-set (l .draft) (l .count) _ ∙ l .inv .0,
-    gathering-more (l .inv .1) (omega arith) (sym (c .before .before .before .before .do-line .ensures) ∙ c .before .before .found .given .1) (omega arith))
+    let l = c .before .before .before .before .before .before .loop in (
+      length-set (l .draft) (l .count) _ ∙ l .inv .0,
+      gathering-more (l .inv .1) (omega arith) (sym (c .before .before .before .before .do-line .ensures) ∙ c .before .before .found .given .1) (omega arith),
+    )
 
 same-length-3 : tie.Need-same-length-3 Inv-loop μ-loop
 same-length-3 c = c .before .loop .inv .0

@@ -1,4 +1,8 @@
+-- `casetext::reader::drafted` meets its contract: each test on the way picks its case of `reading`. Assumes nothing.
 use borrow.Author.Needs.{needs}
+use mathlib.Core.Path.{refl, sym, _∙_}
+use borrow.Author.Tests.{lt-ltb, le-ltb}
+use Rattle.casetext.specs.Reading.{reading, fromLine2, fromLine3, told, Drafted}
 use Rattle.casetext.proofs.reader.drafted.Statement.{statement}
 use Rattle.casetext.proofs.reader.drafted.Tie as tie
 use Rattle.casetext.proofs.reader.drafted.Reads as reads
@@ -7,7 +11,8 @@ use Rattle.casetext.proofs.lines.line.Reads as line-reads
 use Rattle.casetext.proofs.reader.do_lines.Reads as do-lines-reads
 
 returns : tie.Need-returns
-returns c = ?
+unfolding reading fromLine2 fromLine3 told Drafted
+returns c = rw (lt-ltb _ _ (c .if1 .taken)) (refl, tt)
 
 slice-aggregate-line : tie.Need-slice-aggregate-line
 slice-aggregate-line c = search needs
@@ -22,7 +27,9 @@ enum-told : tie.Need-enum-told
 enum-told c = search needs
 
 returns-2 : tie.Need-returns-2
-returns-2 c = ?
+unfolding reading fromLine2 fromLine3 told Drafted
+returns-2 c =
+    rw (le-ltb _ _ (c .before .before .before .before .if1 .left), sym (c .before .before .line .ensures) ∙ c .enum-told .given .1) (refl, tt)
 
 slice-aggregate-line-2 : tie.Need-slice-aggregate-line-2
 slice-aggregate-line-2 c = search needs
@@ -37,7 +44,9 @@ enum-told-2 : tie.Need-enum-told-2
 enum-told-2 c = search needs
 
 returns-3 : tie.Need-returns-3
-returns-3 c = ?
+unfolding reading fromLine2 fromLine3 told Drafted
+returns-3 c =
+    rw (le-ltb _ _ (c .before .before .before .before .before .before .before .before .before .if1 .left), sym (c .before .before .before .before .before .before .before .line .ensures) ∙ c .before .before .before .before .before .claimants .given .1, sym (c .before .before .line2 .ensures) ∙ c .enum-told2 .given .1) (refl, tt)
 
 do-lines-requires : tie.Need-do-lines-requires
 do-lines-requires c κs = search needs
@@ -46,7 +55,9 @@ same-length : tie.Need-same-length
 same-length c = search needs
 
 returns-4 : tie.Need-returns-4
-returns-4 c = ?
+unfolding reading fromLine2 fromLine3
+returns-4 c =
+    rw (le-ltb _ _ (c .before .before .before .before .before .before .before .before .before .before .before .before .before .before .if1 .left), sym (c .before .before .before .before .before .before .before .before .before .before .before .before .line .ensures) ∙ c .before .before .before .before .before .before .before .before .before .before .claimants .given .1, sym (c .before .before .before .before .before .before .before .line2 .ensures) ∙ c .before .before .before .before .before .ceiling .given .1) (c .before .before .do-lines .ensures)
 
 pub drafted-spec : {M : Type 1} → statement M
 drafted-spec =
