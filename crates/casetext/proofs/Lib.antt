@@ -3,3 +3,6 @@ pub mod Choices
 pub mod Words
 pub mod Digits
 pub mod Gathering
+pub mod Stands
+pub mod Numerals
+pub mod Turns

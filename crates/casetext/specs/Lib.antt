@@ -1,5 +1,6 @@
 pub mod Words
 pub mod Numerals
+pub mod Layout
 pub mod Pieces
 pub mod Lines
 pub mod Reading

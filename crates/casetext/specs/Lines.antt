@@ -1,9 +1,10 @@
 -- What is found in a line of a case text, read at a place.
-use Prim.Native.Nat.{ℕ, _+_, _*_}
+use Prim.Native.Nat.{ℕ, _+_}
 use mathlib.Core.List.{List}
 use lib.ListN.{getD, drop}
 use lib.Dec.{eqb}
 use Rattle.casetext.specs.Words.{ascii, pick}
+use Rattle.casetext.specs.Layout.{entry}
 use Rattle.casetext.specs.Pieces.{begins, numberAt, fieldAt}
 use Rattle.casetext.specs.declared.Found.{Found}
 use Rattle.casetext.specs.declared.Found.the-variants.{Is, Broken}
@@ -20,7 +21,7 @@ lineAt w most s at = ended s (fieldAt w most s at)
 -- The entry of a call of this kind by the claimant found.
 unfoldable pub ofKind : (kind : ℕ) → Found → Found
 ofKind kind Broken = Broken
-ofKind kind (Is who next) = Is (kind * 16777216 + who * 65536) next
+ofKind kind (Is who next) = Is (entry kind who 0) next
 
 unfoldable pub calledAt : (kind : ℕ) → (text : List ℕ) → (at : ℕ) → Found
 calledAt kind s at = ofKind kind (numberAt 255 s at)
@@ -28,7 +29,7 @@ calledAt kind s at = ofKind kind (numberAt 255 s at)
 -- The entry of an ask by this claimant under the session found.
 unfoldable pub withSession : (who : ℕ) → Found → Found
 withSession who Broken = Broken
-withSession who (Is session next) = Is (16777216 + who * 65536 + session) next
+withSession who (Is session next) = Is (entry 1 who session) next
 
 unfoldable pub askedBy : (who : ℕ) → (text : List ℕ) → (at : ℕ) → Found
 askedBy who s at = withSession who (fieldAt (ascii " ") 65535 s at)

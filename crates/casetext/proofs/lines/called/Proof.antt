@@ -2,6 +2,7 @@
 use borrow.Author.Needs.{needs}
 use native.Mathlib.Omega.{arith}
 use mathlib.Core.Path.{sym, ap, _∙_}
+use native.Mathlib.Nat.{add-zero}
 use denote.Ref.{now}
 use Rattle.casetext.specs.Lines.{ofKind, calledAt}
 use Rattle.casetext.proofs.Digits.{number-most}
@@ -35,7 +36,7 @@ returns c = rw (sym (c .before .before .number .ensures) ∙ c .enum-told .given
 
 returns-2 : tie.Need-returns-2
 unfolding calledAt ofKind
-returns-2 c = rw (sym (c .before .before .before .number .ensures) ∙ c .before .value .given .1)
+returns-2 c = rw (sym (c .before .before .before .number .ensures) ∙ c .before .value .given .1, add-zero)
 
 pub called-spec : {M : Type 1} → statement M
 called-spec =

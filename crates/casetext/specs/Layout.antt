@@ -1,0 +1,56 @@
+-- The layout of a case text, by writing: a line is the text of what it says.
+use Prim.Native.Nat.{ℕ, _+_, _*_, _≤_}
+use mathlib.Core.Path.{_≡_}
+use mathlib.Core.List.{List, [], _∷_, _++_}
+use Rattle.casetext.specs.Words.{ascii}
+use Rattle.casetext.specs.Numerals.{numeral}
+
+-- What a do line says.
+pub data Turn : Type 0 where
+  ask : (who session : ℕ) → Turn
+  step leave : (who : ℕ) → Turn
+
+-- Claimants go up to 255 and sessions up to 65,535.
+unfoldable pub InRange : Turn → Type 0
+InRange (ask who session) = (who ≤ 255) × (session ≤ 65535)
+InRange (step who) = who ≤ 255
+InRange (leave who) = who ≤ 255
+
+unfoldable pub AllInRange : List Turn → Type 0
+AllInRange [] = Unit {0}
+AllInRange (t ∷ ts) = InRange t × AllInRange ts
+
+-- A schedule's entry: kind × 16,777,216 + claimant × 65,536 + session. Kind 0 is step, 1 ask, 2 leave.
+abbrev pub entry : (kind who session : ℕ) → ℕ
+entry kind who session = kind * 16777216 + who * 65536 + session
+
+unfoldable pub entryOf : Turn → ℕ
+entryOf (ask who session) = entry 1 who session
+entryOf (step who) = entry 0 who 0
+entryOf (leave who) = entry 2 who 0
+
+-- A word and a number.
+abbrev pub fieldText : (word : List ℕ) → (n : ℕ) → List ℕ
+fieldText w n = w ++ numeral n
+
+abbrev pub lineText : (word : List ℕ) → (n : ℕ) → List ℕ
+lineText w n = fieldText w n ++ ascii "\n"
+
+unfoldable pub turnText : Turn → List ℕ
+turnText (ask who session) = fieldText (ascii "ask ") who ++ fieldText (ascii " ") session
+turnText (step who) = fieldText (ascii "step ") who
+turnText (leave who) = fieldText (ascii "leave ") who
+
+abbrev pub doText : Turn → List ℕ
+doText t = ascii "do=" ++ turnText t ++ ascii "\n"
+
+unfoldable pub doTexts : List Turn → List ℕ
+doTexts [] = []
+doTexts (t ∷ ts) = doText t ++ doTexts ts
+
+-- The first two lines.
+abbrev pub headText : (claimants ceiling : ℕ) → List ℕ
+headText n k = lineText (ascii "claimants=") n ++ lineText (ascii "ceiling=") k
+
+abbrev pub caseText : (claimants ceiling : ℕ) → List Turn → List ℕ
+caseText n k ts = headText n k ++ doTexts ts
