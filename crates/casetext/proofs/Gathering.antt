@@ -43,6 +43,11 @@ unfolding before
 before-before a b (accepted n k es) = rw append-assoc
 before-before a b (refused number line) = refl
 
+pub before-none : (r : Said) → before [] r ≡ r
+unfolding before
+before-none (accepted a b es) = refl
+before-none (refused a b) = refl
+
 -- The loop's state: what stands in the draft, and then what is still to be read, make up the whole.
 pub record Gathering (n k : ℕ) (s : List ℕ) (from : ℕ) (draft : List ℕ) (at count : ℕ) : Type 0 where
   pub room : count ≤ 2048
@@ -52,10 +57,6 @@ pub record Gathering (n k : ℕ) (s : List ℕ) (from : ℕ) (draft : List ℕ) 
 pub gathering-start : (n k : ℕ) (s : List ℕ) (from : ℕ) (draft : List ℕ) → 2048 ≤ length draft → Gathering n k s from draft from 0
 unfolding before
 gathering-start n k s from draft e = record { room = omega arith; size = e; rest = before-none (doLines n k 2048 s from 3) }
-  where
-    before-none : (r : Said) → before [] r ≡ r
-    before-none (accepted a b es) = refl
-    before-none (refused a b) = refl
 
 module _ {n k : ℕ} {s : List ℕ} {from : ℕ} {draft : List ℕ} {at count : ℕ} (g : Gathering n k s from draft at count) where
   refusal : (number line : ℕ) → doLines n k (2048 - count) s at (count + 3) ≡ refused number line

@@ -6,3 +6,4 @@ pub mod Gathering
 pub mod Stands
 pub mod Numerals
 pub mod Turns
+pub mod Texts

@@ -4,3 +4,4 @@ pub mod Layout
 pub mod Pieces
 pub mod Lines
 pub mod Reading
+pub mod Promises

@@ -1,0 +1,77 @@
+-- What is promised of the reader: the texts that it accepts and refuses are exactly those that 01 names.
+use Prim.Native.Nat.{ℕ, _+_, _/_, _%_, _≤_, _<_}
+use mathlib.Core.Path.{_≡_}
+use mathlib.Core.Logic.{_↔_}
+use mathlib.Core.List.{List, [], _∷_, _++_, map}
+use lib.ListN.{length, getD}
+use Rattle.casetext.specs.Words.{ascii}
+use Rattle.casetext.specs.Layout.{Turn, InRange, AllInRange, entryOf, lineText, doText, caseText, Writes}
+use Rattle.casetext.specs.Reading.{reading}
+use Rattle.casetext.specs.Reading.Said.{accepted, refused}
+
+-- A text that is a case: short enough, in the layout, with at most 2,048 do lines. The entries are those of its turns.
+pub record IsCase (s : List ℕ) (claimants ceiling : ℕ) (entries : List ℕ) : Type 0 where
+  pub short : length s ≤ 32768
+  pub turns : List Turn
+  pub written : Writes s claimants ceiling turns
+  pub few : length turns ≤ 2048
+  pub says : entries ≡ map entryOf turns
+
+-- A text is accepted exactly if it is a case, with the very numbers and entries that write it.
+abbrev pub AcceptedExactly : Type 0
+AcceptedExactly =
+    (s : List ℕ) (claimants ceiling : ℕ) (entries : List ℕ)
+    → reading s ≡ accepted claimants ceiling entries ↔ IsCase s claimants ceiling entries
+
+-- No two readings of one text, whatever its length.
+abbrev pub OneReading : Type 0
+OneReading =
+    (s : List ℕ) (n k n′ k′ : ℕ) (ts ts′ : List Turn)
+    → Writes s n k ts → Writes s n′ k′ ts′ → (n ≡ n′) × (k ≡ k′) × (ts ≡ ts′)
+
+-- What is left of a text does not begin with a line of this word and a number in range; nor with a do line.
+abbrev pub NoNumberLine : (word : List ℕ) → (rest : List ℕ) → Type 0
+NoNumberLine word rest = (n : ℕ) (after : List ℕ) → n ≤ 4294967295 → rest ≡ lineText word n ++ after → ⊥
+
+abbrev pub NoDoLine : (rest : List ℕ) → Type 0
+NoDoLine rest = (t : Turn) (after : List ℕ) → InRange t → rest ≡ doText t ++ after → ⊥
+
+-- The lines before this one are as the layout wants them, and this one is not. Lines 1 and 2 may also be missing.
+pub data FirstBad (s : List ℕ) (line : ℕ) : Type 0 where
+  line-1 : line ≡ 1 → NoNumberLine (ascii "claimants=") s → FirstBad s line
+  line-2 : (n : ℕ) (rest : List ℕ) → line ≡ 2 → n ≤ 4294967295
+      → s ≡ lineText (ascii "claimants=") n ++ rest → NoNumberLine (ascii "ceiling=") rest → FirstBad s line
+  line-3-on : (n k : ℕ) (ts : List Turn) (rest : List ℕ) → line ≡ 3 + length ts → n ≤ 4294967295 → k ≤ 4294967295
+      → AllInRange ts → length ts ≤ 2048 → s ≡ caseText n k ts ++ rest → (rest ≡ [] → ⊥) → NoDoLine rest → FirstBad s line
+
+-- This line is a well-formed do line after 2,048 of them.
+pub record TooMany (s : List ℕ) (line : ℕ) : Type 0 where
+  pub claimants : ℕ
+  pub ceiling : ℕ
+  pub turns : List Turn
+  pub more : Turn
+  pub rest : List ℕ
+  pub at : line ≡ 2051
+  pub first : claimants ≤ 4294967295
+  pub second : ceiling ≤ 4294967295
+  pub ranged : AllInRange turns
+  pub many : length turns ≡ 2048
+  pub in-range : InRange more
+  pub text : s ≡ caseText claimants ceiling turns ++ (doText more ++ rest)
+
+-- Why a text is refused with this number at this line.
+pub data Cause (s : List ℕ) (number line : ℕ) : Type 0 where
+  long : number ≡ 11 → line ≡ 0 → 32768 < length s → Cause s number line
+  broken : number ≡ 12 → length s ≤ 32768 → FirstBad s line → Cause s number line
+  many : number ≡ 13 → length s ≤ 32768 → TooMany s line → Cause s number line
+
+-- A text is refused exactly for its cause: the line given is that of the first line at fault.
+abbrev pub RefusedExactly : Type 0
+RefusedExactly = (s : List ℕ) (number line : ℕ) → reading s ≡ refused number line ↔ Cause s number line
+
+-- Every entry given back has a kind and a session field that refusal 9 does not name.
+abbrev pub EntriesAllowed : Type 0
+EntriesAllowed =
+    (s : List ℕ) (n k : ℕ) (entries : List ℕ) → reading s ≡ accepted n k entries
+    → (i : ℕ) → i < length entries
+    → (getD entries i 0 / 16777216 ≤ 2) × ((getD entries i 0 / 16777216 ≡ 1 → ⊥) → getD entries i 0 % 65536 ≡ 0)
