@@ -7,3 +7,4 @@ pub mod Stands
 pub mod Numerals
 pub mod Turns
 pub mod Texts
+pub mod Promises
