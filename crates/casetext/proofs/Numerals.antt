@@ -153,7 +153,7 @@ read-on most (b ∷ l) v at {n} {next} o e =
     read-on most l (v * 10 + (b - 48)) (suc at) (omega arith) (rw (d, m) at e) in
     record {
       digits = b ∷ r .digits;
-      text = ap {y = r .digits ++ drop (length (r .digits)) l} (λ (k : List ℕ). b ∷ k) (r .text);
+      text = ap (λ (k : List ℕ). b ∷ k) {y = r .digits ++ drop (length (r .digits)) l} (r .text);
       whole = r .whole ∙ rw (numeral-digit v b o (g .0) (g .1)) (append-assoc (numeral v) (b ∷ []) (r .digits));
       ends = omega (arith, r .ends);
     })
