@@ -8,3 +8,4 @@ pub mod Numerals
 pub mod Turns
 pub mod Texts
 pub mod Promises
+pub mod Puts

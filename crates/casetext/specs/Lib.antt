@@ -4,4 +4,5 @@ pub mod Layout
 pub mod Pieces
 pub mod Lines
 pub mod Reading
+pub mod Writing
 pub mod Promises

@@ -4,6 +4,7 @@
 mod lines;
 mod pieces;
 mod reader;
+mod writing;
 
 pub use reader::read;
 

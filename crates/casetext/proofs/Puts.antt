@@ -1,0 +1,90 @@
+-- Texts written one after the other make up one text; digits written are the numeral.
+-- Assumes nothing.
+use Prim.Native.Nat.{ℕ, zero, suc, _+_, _-_, _*_, _/_, _%_, _^_, _≤_, _<_}
+use native.Mathlib.Nat.{one-le-pow}
+use native.Mathlib.Omega.{arith}
+use mathlib.Core.Path.{_≡_, refl, sym, ap, _∙_}
+use mathlib.Core.List.{List, [], _∷_, _++_, append-assoc}
+use lib.ListN.{length, take, drop, length-append, length-take, length-drop}
+use lib.Seq.{take-at, drop-at, drop-drop, length-take-le, take-length, paste}
+use lib.Dec.{ltb}
+use borrow.Author.Tests.{lt-ltb, ltb-true, ltb-false}
+use Rattle.io.specs.Digits.{digits, glyph, Fewest}
+use Rattle.casetext.specs.Numerals.{numeral}
+use Rattle.casetext.specs.Writing.{put, Room, Wrote}
+use Rattle.casetext.proofs.Choices.{decide}
+use Rattle.casetext.proofs.Numerals.{numeral-one, numeral-more}
+
+module _ (held : List ℕ) (at : ℕ) (w : List ℕ) (fits : at + length w ≤ length held) where
+  head-length : length (take at held ++ w) ≡ at + length w
+  head-length = length-append (take at held) w ∙ rw (length-take-le at held (omega arith))
+
+  pub length-put : length (put held at w) ≡ length held
+  unfolding put
+  length-put = rw (length-append, head-length, length-drop) (omega arith)
+
+  drop-put : drop (at + length w) (put held at w) ≡ drop (at + length w) held
+  unfolding put
+  drop-put = drop-at (take at held ++ w) (drop (at + length w) held) (at + length w) head-length
+
+  pub put-put : (v : List ℕ) → put (put held at w) (at + length w) v ≡ put held at (w ++ v)
+  unfolding put
+  put-put v =
+      let p : take (at + length w) (put held at w) ≡ take at held ++ w =
+      take-at (take at held ++ w) (drop (at + length w) held) (at + length w) head-length in
+      let q : drop (at + length w + length v) (put held at w) ≡ drop (at + length w + length v) held =
+      sym (drop-drop (length v) (at + length w) (put held at w)) ∙ ap (drop (length v)) drop-put ∙ drop-drop (length v) (at + length w) held in
+      let e : at + length (w ++ v) ≡ at + length w + length v = omega (arith, length-append w v) in
+      rw (p, q, e, append-assoc (take at held) w v)
+
+-- Two texts, one after the other: there is room for the second, and both were written.
+module _ {held : List ℕ} {at : ℕ} (w v : List ℕ) (room : Room held at (w ++ v)) where
+  pub room-first : Room held at w
+  room-first = omega (arith, length-append w v)
+
+  module _ {next : ℕ} {after : List ℕ} (p : Wrote held at w next after) where
+    pub same-size : length after ≡ length held
+    same-size = rw (p .row) (length-put held at w (room-first .fits))
+
+    pub room-second : Room after next v
+    room-second = omega (arith, p .ends, same-size, length-append w v)
+
+    pub wrote-both : {last : ℕ} {end : List ℕ} → Wrote after next v last end → Wrote held at (w ++ v) last end
+    wrote-both q = record {
+      ends = omega (arith, p .ends, q .ends, length-append w v);
+      row = q .row ∙ rw (p .row, p .ends) (put-put held at w (room-first .fits) v);
+    }
+
+-- a word that was copied whole
+pub put-all : (held : List ℕ) (at : ℕ) (w : List ℕ) → paste held at w (length w) ≡ put held at w
+unfolding put
+put-all held at w = rw (take-length w)
+
+-- a number below 10 ^ k has at most k digits
+pub numeral-short : (k n : ℕ) → n < 10 ^ k → 1 ≤ k → length (numeral n) ≤ k
+numeral-short zero n h o = absurd (omega arith)
+numeral-short (suc k) n h o =
+    decide (ltb n 10) (λ t. rw (numeral-one n (ltb-true _ _ t)) (omega arith))
+    (λ t.
+    let ten = ltb-false n 10 t in
+    rw (numeral-more n ten, length-append)
+    (omega (arith, numeral-short k (n / 10) (omega arith) (some k h ten))))
+  where
+    some : (k : ℕ) → n < 10 ^ suc k → 10 ≤ n → 1 ≤ k
+    some zero h g = absurd (omega arith)
+    some (suc k) h g = omega arith
+
+-- the fewest digits that hold a number are its numeral
+pub digits-numeral : (k n : ℕ) → Fewest 10 1 n k → digits 10 k n ≡ numeral n
+digits-numeral zero n f = absurd (omega (arith, f .0))
+digits-numeral (suc zero) n f =
+    let h : n < 10 = omega (arith, f .1) in
+    let e : n % 10 ≡ n = omega arith in
+    rw (numeral-one n h, e, lt-ltb n 10 h)
+digits-numeral (suc (suc k)) n f =
+    let a : suc (suc k) - 1 ≡ suc k = omega arith in
+    let b : suc k - 1 ≡ k = omega arith in
+    let low : 10 ^ suc k ≤ n = rw a at (f .2 (omega arith)) in
+    let one = one-le-pow k 10 (omega arith) in
+    let ih = digits-numeral (suc k) (n / 10) (omega arith, omega (arith, f .1), λ h. rw b (omega arith)) in
+    rw (numeral-more n (omega arith), ← ih, lt-ltb (n % 10) 10 (omega arith))
