@@ -9,3 +9,4 @@ pub mod Turns
 pub mod Texts
 pub mod Promises
 pub mod Puts
+pub mod Runs

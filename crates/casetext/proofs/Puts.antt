@@ -88,3 +88,29 @@ digits-numeral (suc (suc k)) n f =
     let one = one-le-pow k 10 (omega arith) in
     let ih = digits-numeral (suc k) (n / 10) (omega arith, omega (arith, f .1), λ h. rw b (omega arith)) in
     rw (numeral-more n (omega arith), ← ih, lt-ltb (n % 10) 10 (omega arith))
+
+-- Four texts, one after the other.
+module _ {held : List ℕ} {at : ℕ} (w v u t : List ℕ) (room : Room held at (w ++ v ++ u ++ t)) where
+  three : Room held at (w ++ v ++ u)
+  three = room-first (w ++ v ++ u) t room
+
+  two : Room held at (w ++ v)
+  two = room-first (w ++ v) u three
+
+  pub room-1 : Room held at w
+  room-1 = room-first w v two
+
+  module _ {a : ℕ} {x : List ℕ} (p : Wrote held at w a x) where
+    pub room-2 : Room x a v
+    room-2 = room-second w v two p
+
+    module _ {b : ℕ} {y : List ℕ} (q : Wrote x a v b y) where
+      pub room-3 : Room y b u
+      room-3 = room-second (w ++ v) u three (wrote-both w v two p q)
+
+      module _ {c : ℕ} {z : List ℕ} (r : Wrote y b u c z) where
+        pub room-4 : Room z c t
+        room-4 = room-second (w ++ v ++ u) t room (wrote-both (w ++ v) u three (wrote-both w v two p q) r)
+
+        pub wrote-4 : {d : ℕ} {after : List ℕ} → Wrote z c t d after → Wrote held at (w ++ v ++ u ++ t) d after
+        wrote-4 s = wrote-both (w ++ v ++ u) t room (wrote-both (w ++ v) u three (wrote-both w v two p q) r) s

@@ -5,4 +5,5 @@ pub mod Pieces
 pub mod Lines
 pub mod Reading
 pub mod Writing
+pub mod Report
 pub mod Promises

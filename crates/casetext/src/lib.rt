@@ -4,6 +4,7 @@
 mod lines;
 mod pieces;
 mod reader;
+mod report;
 mod writing;
 
 pub use reader::read;
@@ -25,4 +26,10 @@ pub enum Reading {
         number: u8,
         line: usize,
     },
+}
+
+// What a report came to: so many bytes, or a row that is too short for every report.
+pub enum Reported {
+    Printed(usize),
+    Short,
 }
