@@ -10,3 +10,4 @@ pub mod Texts
 pub mod Promises
 pub mod Puts
 pub mod Runs
+pub mod Lengths

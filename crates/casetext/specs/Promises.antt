@@ -1,4 +1,4 @@
--- What is promised of the reader: the texts that it accepts and refuses are exactly those that 01 names.
+-- What is promised of the reader and of the report: the texts accepted and refused are exactly those that 01 names.
 use Prim.Native.Nat.{ℕ, _+_, _/_, _%_, _≤_, _<_}
 use mathlib.Core.Path.{_≡_}
 use mathlib.Core.Logic.{_↔_}
@@ -7,6 +7,7 @@ use lib.ListN.{length, getD}
 use Rattle.casetext.specs.Words.{ascii}
 use Rattle.casetext.specs.Layout.{Turn, InRange, AllInRange, entryOf, lineText, doText, caseText, Writes}
 use Rattle.casetext.specs.Reading.{reading}
+use Rattle.casetext.specs.Report.{printed, reportBytes}
 use Rattle.casetext.specs.Reading.Said.{accepted, refused}
 
 -- A text that is a case: short enough, in the layout, with at most 2,048 do lines. The entries are those of its turns.
@@ -75,3 +76,7 @@ EntriesAllowed =
     (s : List ℕ) (n k : ℕ) (entries : List ℕ) → reading s ≡ accepted n k entries
     → (i : ℕ) → i < length entries
     → (getD entries i 0 / 16777216 ≤ 2) × ((getD entries i 0 / 16777216 ≡ 1 → ⊥) → getD entries i 0 % 65536 ≡ 0)
+
+-- No report is longer than the row that every report fits.
+abbrev pub ReportFits : Type 0
+ReportFits = (s : List ℕ) → length (printed s) ≤ reportBytes

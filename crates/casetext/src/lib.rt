@@ -4,10 +4,11 @@
 mod lines;
 mod pieces;
 mod reader;
-mod report;
+mod reporting;
 mod writing;
 
 pub use reader::read;
+pub use reporting::report;
 
 // What a reader finds at a place: a number, with the place past its text, or a text that breaks the layout.
 pub enum Found {

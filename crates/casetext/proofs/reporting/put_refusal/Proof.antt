@@ -1,13 +1,13 @@
--- `casetext::report::put_refusal` meets its contract. Assumes nothing.
+-- `casetext::reporting::put_refusal` meets its contract. Assumes nothing.
 use borrow.Author.Needs.{needs}
 use Rattle.casetext.specs.Words.{ascii}
 use Rattle.casetext.specs.Layout.{fieldText, lineText}
 use Rattle.casetext.specs.Report.{refusalText}
 use Rattle.casetext.proofs.Puts.{room-first, room-second, wrote-both}
-use Rattle.casetext.proofs.report.put_refusal.Statement.{statement}
-use Rattle.casetext.proofs.report.put_refusal.Tie as tie
-use Rattle.casetext.proofs.report.put_refusal.Reads as reads
-use Rattle.casetext.proofs.report.put_refusal.Lts as lts
+use Rattle.casetext.proofs.reporting.put_refusal.Statement.{statement}
+use Rattle.casetext.proofs.reporting.put_refusal.Tie as tie
+use Rattle.casetext.proofs.reporting.put_refusal.Reads as reads
+use Rattle.casetext.proofs.reporting.put_refusal.Lts as lts
 use Rattle.casetext.proofs.writing.put_field.Reads as put-field-reads
 use Rattle.casetext.proofs.writing.put_line.Reads as put-line-reads
 

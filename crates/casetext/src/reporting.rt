@@ -3,7 +3,8 @@ ghost use mathlib.Core.Path.{_≡_};
 ghost use Prim.Native.Nat.{_*_, _≤_};
 ghost use lib.ListN.{length};
 ghost use Rattle.casetext.specs.Writing.{Room, Wrote};
-ghost use Rattle.casetext.specs.Report.{entryText, entriesText, refusalText, runText, openedText, saidText, reported, reportRow, reportBytes};
+ghost use Rattle.casetext.specs.Reading.Said.{accepted};
+ghost use Rattle.casetext.specs.Report.{entryText, refusalText, runText, saidText, reported, reportRow};
 use crate::Reading;
 use crate::Reported;
 use crate::reader::drafted;
@@ -47,4 +48,39 @@ fn put_refusal(out: &mut [u8], number: u8, line: usize) -> usize
 {
     let next = put_field(out, 0, b"refused=", number as u32);
     put_line(out, next, b" line=", line as u32)
+}
+
+// What a case with these two numbers and entries prints.
+fn put_case(out: &mut [u8], claimants: u32, ceiling: u32, entries: &[u32]) -> usize
+    requires { ⌜ length (now entries) ≤ 2048 ⌝ }
+    requires { ⌜ Room (now out) 0 (saidText (accepted claimants ceiling (now entries))) ⌝ }
+    ensures { λ r. ⌜ Wrote (now (out .entry)) 0 (saidText (accepted claimants ceiling (now (entries .entry)))) r (now (out .exit)) ⌝ }
+{
+    let mut left = [0u32; 10240];
+    let outcome = store::trial(claimants, ceiling, entries, &mut left);
+    match outcome {
+        Outcome::Done => put_run(out, entries, &left),
+        Outcome::Refused(number) => put_refusal(out, number, number as usize),
+    }
+}
+
+// Writes all that `boardcase` prints of a text into a lent row, whose later bytes stay. A row that some report would not fit is
+// left as it was, whatever the text.
+pub fn report(text: &[u8], out: &mut [u8]) -> Reported
+    ensures { λ r. ⌜ r ≡ reported (now (out .entry)) (now (text .entry)) ⌝ }
+    ensures { λ _. ⌜ now (out .exit) ≡ reportRow (now (out .entry)) (now (text .entry)) ⌝ }
+{
+    if out.len() < 153609 {
+        return Reported::Short;
+    }
+    let mut draft = [0u32; 2048];
+    let said = drafted(text, &mut draft);
+    match said {
+        Reading::Refused { number, line } => Reported::Printed(put_refusal(out, number, line)),
+        Reading::Case {
+            claimants,
+            ceiling,
+            count,
+        } => { Reported::Printed(put_case(out, claimants, ceiling, &draft[..count])) }
+    }
 }

@@ -1,4 +1,4 @@
--- `casetext::report::put_run` meets its contract: each turn of its loop is one of `Running`'s. Assumes nothing.
+-- `casetext::reporting::put_run` meets its contract: each turn of its loop is one of `Running`'s. Assumes nothing.
 use borrow.Author.Needs.{needs}
 use Prim.Native.Nat.{_-_, _*_}
 use mathlib.Core.Path.{_≡_, _∙_}
@@ -10,11 +10,11 @@ use Rattle.casetext.proofs.Puts.{room-second, wrote-both}
 use Rattle.casetext.specs.Words.{ascii}
 use Rattle.casetext.specs.Layout.{lineText}
 use Rattle.casetext.specs.Report.{entriesText, runText}
-use Rattle.casetext.proofs.report.put_run.Statement.{statement}
-use Rattle.casetext.proofs.report.put_run.Tie as tie
-use Rattle.casetext.proofs.report.put_run.Reads as reads
-use Rattle.casetext.proofs.report.put_run.Lts as lts
-use Rattle.casetext.proofs.report.put_entry.Reads as put-entry-reads
+use Rattle.casetext.proofs.reporting.put_run.Statement.{statement}
+use Rattle.casetext.proofs.reporting.put_run.Tie as tie
+use Rattle.casetext.proofs.reporting.put_run.Reads as reads
+use Rattle.casetext.proofs.reporting.put_run.Lts as lts
+use Rattle.casetext.proofs.reporting.put_entry.Reads as put-entry-reads
 use Rattle.casetext.proofs.writing.put_line.Reads as put-line-reads
 
 abbrev Inv-loop : tie.InvT-loop

@@ -1,13 +1,13 @@
--- `casetext::report::put_entry` meets its contract: its four parts, one after the other. Assumes nothing.
+-- `casetext::reporting::put_entry` meets its contract: its four parts, one after the other. Assumes nothing.
 use borrow.Author.Needs.{needs}
 use denote.Ref.{now}
 use Rattle.casetext.specs.Report.{entryText}
 use Rattle.casetext.proofs.Puts.{room-1, room-2, room-3, room-4, wrote-4}
 use Rattle.casetext.proofs.Runs.{who, session, token, answer}
-use Rattle.casetext.proofs.report.put_entry.Statement.{statement}
-use Rattle.casetext.proofs.report.put_entry.Tie as tie
-use Rattle.casetext.proofs.report.put_entry.Reads as reads
-use Rattle.casetext.proofs.report.put_entry.Lts as lts
+use Rattle.casetext.proofs.reporting.put_entry.Statement.{statement}
+use Rattle.casetext.proofs.reporting.put_entry.Tie as tie
+use Rattle.casetext.proofs.reporting.put_entry.Reads as reads
+use Rattle.casetext.proofs.reporting.put_entry.Lts as lts
 use Rattle.casetext.proofs.writing.put_fields.Reads as put-fields-reads
 use Rattle.casetext.proofs.writing.put_line.Reads as put-line-reads
 

@@ -1,0 +1,145 @@
+-- How long a report can be.
+-- Assumes nothing.
+use Prim.Native.Nat.{ℕ, zero, suc, _+_, _-_, _*_, _/_, _%_, _^_, _≤_, _<_}
+use native.Mathlib.Omega.{arith}
+use mathlib.Core.Path.{_≡_, refl, sym, ap, _∙_}
+use mathlib.Core.Bool.{Bool, true, false}
+use mathlib.Core.List.{List, [], _∷_, _++_, map}
+use lib.Dec.{eqb, leb}
+use lib.ListN.{length, getD, drop, length-append, length-map}
+use borrow.Author.Tests.{eqb-false, leb-true, leb-false, not-false}
+use Rattle.rules.specs.Tests.{pick, first, within}
+use Rattle.rules.specs.Answers.{numberOf}
+use Rattle.rules.specs.Rules.{openRefusals}
+use Rattle.rules.specs.Tables.{Table, opened, recordOf, called, Opens, Sound}
+use Rattle.rules.specs.declared.Claimant.{Claimant}
+use Rattle.rules.specs.declared.Terms.{Terms}
+use Rattle.rules.specs.declared.Call.{Call}
+use Rattle.rules.proofs.Choices.{decide, none-given, within-true, first-small}
+use Rattle.rules.proofs.Rows.{any-bounds, rows-formed, beyond, opened-sound}
+use Rattle.rules.proofs.Calls.{answer-small}
+use Rattle.rules.proofs.Keeping.{sound-called}
+use Rattle.store.specs.Schedules.{claimantIn, kindIn, sessionIn, decoded, entered}
+use Rattle.store.specs.Trials.{termsOf, traced}
+use Rattle.store.specs.declared.Entry.{Entry}
+use Rattle.store.specs.declared.Entry.the-variants.{Made, Barred}
+use Rattle.casetext.specs.Words.{ascii}
+use Rattle.casetext.specs.Numerals.{numeral}
+use Rattle.casetext.specs.Layout.{entryOf, lineText}
+use Rattle.casetext.specs.Reading.{Said, reading}
+use Rattle.casetext.specs.Reading.Said.{accepted, refused}
+use Rattle.casetext.specs.Report.{entryText, entriesText, refusalText, runText, openedText, saidText, printed}
+use Rattle.casetext.specs.Promises.{IsCase, FirstBad, TooMany, Cause, ReportFits}
+use Rattle.casetext.specs.Promises.FirstBad.{line-1, line-2, line-3-on}
+use Rattle.casetext.specs.Promises.Cause.{long, broken, many}
+use Rattle.casetext.proofs.Puts.{numeral-short}
+use Rattle.casetext.proofs.Promises.{accepted-exactly, refused-exactly}
+
+-- The line of a do line, at the widest numbers that it can have.
+entry-short : (number entry place session raised token answer : ℕ) (rest : List ℕ)
+    → number ≤ 2048 → place ≤ 12 → session ≤ 65535 → raised ≤ 1 → token ≤ 4294967295 → answer ≤ 41
+    → length (entryText number entry (place ∷ session ∷ raised ∷ token ∷ answer ∷ rest)) ≤ 75
+unfolding entryText
+entry-short number entry place session raised token answer rest a b c d e f =
+    simp length-append
+    (omega
+    (arith, numeral-short 4 number (omega arith) (omega arith), numeral-short 3 (claimantIn entry) (omega arith) (omega arith), numeral-short 2 place (omega arith) (omega arith), numeral-short 5 session (omega arith) (omega arith), numeral-short 1 raised (omega arith) (omega arith), numeral-short 10 token (omega arith) (omega arith), numeral-short 2 answer (omega arith) (omega arith)))
+
+refusal-short : (number line : ℕ) → number ≤ 13 → line ≤ 2051 → length (refusalText number line) ≤ 153609
+unfolding refusalText
+refusal-short number line a b =
+    simp length-append
+    (omega (arith, numeral-short 2 number (omega arith) (omega arith), numeral-short 4 line (omega arith) (omega arith)))
+
+-- What an entry leaves is in range.
+by-entry : (P : Entry → Type 0) (e : ℕ) → ((c : Call) → P (Made c)) → P (Barred 9) → P (decoded e)
+unfolding decoded
+by-entry P e made barred =
+    decide (eqb (kindIn e) 0)
+    (λ t. rw t (decide (eqb (sessionIn e) 0) (λ u. rw u (made _)) (λ u. rw u barred)))
+    (λ t. decide (eqb (kindIn e) 1) (λ u. rw (t, u) (made _))
+    (λ u. decide (eqb (kindIn e) 2)
+    (λ v. rw (t, u, v) (decide (eqb (sessionIn e) 0) (λ w. rw w (made _)) (λ w. rw w barred)))
+    (λ v. rw (t, u, v) barred)))
+
+module _ {n : ℕ} {k : Terms} where
+  entered-sound : {t : Table} (e : Entry) → Sound n k t → Sound n k (entered k e t .table)
+  unfolding entered
+  entered-sound (Made c) s = sound-called c s
+  entered-sound (Barred r) s = s
+
+  any-place : {t : Table} → Sound n k t → (j : ℕ) → recordOf t j .place ≤ 12
+  unfolding recordOf
+  any-place s zero = omega arith
+  any-place {t} s (suc j) =
+      decide (leb (suc j) n)
+      (λ e. rows-formed s (suc j) (omega arith) (leb-true (suc j) n e) .has-row)
+      (λ e. rw (beyond t (suc j) (omega (arith, leb-false (suc j) n e, s .length-is))) (omega arith))
+
+answer-range : (k : Terms) (e : ℕ) (t : Table) → numberOf (entered k (decoded e) t .answer) ≤ 41
+unfolding entered
+answer-range k e t = by-entry (λ x. numberOf (entered k x t .answer) ≤ 41) e (λ c. answer-small k c t) (omega arith)
+
+-- 75 bytes an entry
+entries-short : {n : ℕ} {k : Terms} → k .ceiling ≤ 4294967295 → (es : List ℕ) (number : ℕ) (t : Table) → Sound n k t → number + length es ≤ 2049
+    → length (entriesText number es (traced k es t)) ≤ 75 * length es
+unfolding entriesText traced
+entries-short ceiling [] number t s h = omega arith
+entries-short {n} {k} ceiling (e ∷ es) number t s h =
+    let next = entered k (decoded e) t .table in
+    let sound : Sound n k next = entered-sound (decoded e) s in
+    let c = recordOf next (claimantIn e) in
+    let b = any-bounds sound (claimantIn e) in
+    let p = any-place sound (claimantIn e) in
+    let one =
+    entry-short number e (c .place) (c .session) (c .choosing) (c .token) (numberOf (entered k (decoded e) t .answer)) (traced k es next)
+    (omega arith) p (b .session) (b .choosing) (omega (arith, b .token)) (answer-range k e t) in
+    let rest = entries-short ceiling es (number + 1) next sound (omega arith) in
+    rw length-append (omega (arith, one, rest))
+
+-- Where opening refuses nothing, the table is sound from the start.
+opens : (n : ℕ) (k : Terms) → eqb (first (openRefusals n k)) 0 ≡ true → Opens n k
+opens n k e =
+    let g = none-given (openRefusals n k) (omega arith) e in
+    let w = within-true 1 64 n (not-false (within 1 64 n) (g .0)) in
+    let z = eqb-false (k .ceiling) 0 (g .1 .0) in
+    record { some-row = w .0; rows = w .1; ceiling-set = omega arith }
+
+run-short : {n : ℕ} {k : Terms} → k .ceiling ≤ 4294967295 → (es : List ℕ) → Opens n k → length es ≤ 2048
+    → length (runText es (traced k es (opened n))) ≤ 153609
+unfolding runText
+run-short {n} {k} ceiling es o h =
+    rw length-append
+    (omega
+    (arith, entries-short ceiling es 1 (opened n) (opened-sound n k o) (omega arith), end-short (length es) h))
+  where
+    end-short : (n : ℕ) → n ≤ 2048 → length (lineText (ascii "end=") n) ≤ 9
+    end-short n h = simp length-append (omega (arith, numeral-short 4 n (omega arith) (omega arith)))
+
+-- A refused text's number and line.
+pub cause-small : {s : List ℕ} {number line : ℕ} → Cause s number line → (number ≤ 13) × (line ≤ 2051)
+cause-small (long a b h) = omega arith
+cause-small (broken a l (line-1 b h)) = omega arith
+cause-small (broken a l (line-2 n rest b h e o)) = omega arith
+cause-small (broken a l (line-3-on n k ts rest b hn hk r m e o d)) = omega arith
+cause-small (many a l m) = omega (arith, m .at)
+
+pub case-few : {s : List ℕ} {n k : ℕ} {es : List ℕ} → IsCase s n k es → length es ≤ 2048
+case-few c = omega (arith, c .few, ap length (c .says) ∙ length-map (c .turns) entryOf)
+
+said-short : (s : List ℕ) (r : Said) → reading s ≡ r → length (saidText r) ≤ 153609
+unfolding saidText openedText
+said-short s (accepted n k es) e =
+    let c = accepted-exactly s n k es .0 e in
+    let r = first (openRefusals n (termsOf k)) in
+    let small = first-small (openRefusals n (termsOf k)) (omega arith) in
+    decide (eqb r 0)
+    (λ t. rw t (run-short {k = termsOf k} (c .written .second) es (opens n (termsOf k) t) (case-few c)))
+    (λ t. rw t (refusal-short r r (omega arith) (omega arith)))
+said-short s (refused number line) e =
+    let h = cause-small (refused-exactly s number line .0 e) in
+    refusal-short number line (h .0) (h .1)
+
+pub report-fits : ReportFits
+unfolding printed
+report-fits s = said-short s (reading s) refl
