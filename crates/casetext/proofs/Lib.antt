@@ -11,3 +11,4 @@ pub mod Promises
 pub mod Puts
 pub mod Runs
 pub mod Lengths
+pub mod Reports

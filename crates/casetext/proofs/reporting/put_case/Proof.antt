@@ -1,4 +1,10 @@
+-- `casetext::reporting::put_case` meets its contract: a trial's answer says which text is printed. Assumes nothing.
 use borrow.Author.Needs.{needs}
+use native.Mathlib.Omega.{arith}
+use mathlib.Core.Path.{sym, ap, _∙_}
+use denote.Ref.{now}
+use Rattle.casetext.specs.Report.{runText}
+use Rattle.casetext.proofs.Reports.{done-text, refused-text}
 use Rattle.casetext.proofs.reporting.put_case.Statement.{statement}
 use Rattle.casetext.proofs.reporting.put_case.Tie as tie
 use Rattle.casetext.proofs.reporting.put_case.Reads as reads
@@ -20,7 +26,13 @@ slice-aggregate-put-run : tie.Need-slice-aggregate-put-run
 slice-aggregate-put-run c = search needs
 
 put-run-requires : tie.Need-put-run-requires
-put-run-requires c κs = ?
+put-run-requires c κs =
+    let s = c .before .before .before .before .before .before .before .before .before in
+    let a = s .args in
+    let t = c .before .before .before .before .before .trial in
+    let es = now (a .entries) in
+    let e = done-text (a .claimants) (a .ceiling) es _ (omega arith) (sym (t .ensures .1) ∙ c .before .before .enum-told .given .1) ∙ ap (runText es) (sym (t .ensures .0)) in
+    (s .pre .0, (omega arith, rw e at (s .pre .1)))
 
 enum-known-outcome : tie.Need-enum-known-outcome
 enum-known-outcome c = search needs
@@ -29,19 +41,37 @@ cast-put-refusal : tie.Need-cast-put-refusal
 cast-put-refusal c = search needs
 
 put-refusal-requires : tie.Need-put-refusal-requires
-put-refusal-requires c κs = ?
+put-refusal-requires c κs =
+    let s = c .before .before .before .before .before .before .before .before .before in
+    let a = s .args in
+    let t = c .before .before .before .before .before .trial in
+    let es = now (a .entries) in
+    let e = refused-text (a .claimants) (a .ceiling) es _ (omega arith) (sym (t .ensures .1) ∙ c .before .before .outcome .given .1) in
+    (omega (arith, e .1), rw (e .0) at (s .pre .1))
 
 same-length : tie.Need-same-length
 same-length c = search needs
 
 returns : tie.Need-returns
-returns c = ?
+returns c =
+    let s = c .before .before .before .before .before .before .before .before .before .before .before .before in
+    let a = s .args in
+    let t = c .before .before .before .before .before .before .before .before .trial in
+    let es = now (a .entries) in
+    let e = done-text (a .claimants) (a .ceiling) es _ (omega arith) (sym (t .ensures .1) ∙ c .before .before .before .before .before .enum-told .given .1) ∙ ap (runText es) (sym (t .ensures .0)) in
+    rw e (c .before .before .put-run .ensures)
 
 same-length-2 : tie.Need-same-length-2
 same-length-2 c = search needs
 
 returns-2 : tie.Need-returns-2
-returns-2 c = ?
+returns-2 c =
+    let s = c .before .before .before .before .before .before .before .before .before .before .before .before in
+    let a = s .args in
+    let t = c .before .before .before .before .before .before .before .before .trial in
+    let es = now (a .entries) in
+    let e = refused-text (a .claimants) (a .ceiling) es _ (omega arith) (sym (t .ensures .1) ∙ c .before .before .before .before .before .outcome .given .1) in
+    rw (e .0) (c .before .before .put-refusal .ensures)
 
 pub put-case-spec : {M : Type 1} → statement M
 put-case-spec =
