@@ -29,7 +29,7 @@ use Rattle.casetext.specs.Layout.{entryOf, lineText}
 use Rattle.casetext.specs.Reading.{Said, reading}
 use Rattle.casetext.specs.Reading.Said.{accepted, refused}
 use Rattle.casetext.specs.Report.{entryText, entriesText, refusalText, runText, openedText, saidText, printed}
-use Rattle.casetext.specs.Promises.{IsCase, FirstBad, TooMany, Cause, ReportFits}
+use Rattle.casetext.specs.Promises.{IsCase, FirstBad, TooMany, Cause, ReportFits, PrintsSomething}
 use Rattle.casetext.specs.Promises.FirstBad.{line-1, line-2, line-3-on}
 use Rattle.casetext.specs.Promises.Cause.{long, broken, many}
 use Rattle.casetext.proofs.Puts.{numeral-short}
@@ -143,3 +143,15 @@ said-short s (refused number line) e =
 pub report-fits : ReportFits
 unfolding printed
 report-fits s = said-short s (reading s) refl
+
+said-something : (r : Said) → 1 ≤ length (saidText r)
+unfolding saidText openedText runText refusalText
+said-something (accepted n k es) =
+    decide (eqb (first (openRefusals n (termsOf k))) 0)
+    (λ t. rw t (rw length-append (omega arith)))
+    (λ t. rw t (omega arith))
+said-something (refused number line) = omega arith
+
+pub prints-something : PrintsSomething
+unfolding printed
+prints-something s = said-something (reading s)

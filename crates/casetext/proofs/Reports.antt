@@ -8,7 +8,7 @@ use mathlib.Core.Bool.{Bool, true, false}
 use mathlib.Core.List.{List, [], _∷_, _++_}
 use lib.Dec.{eqb, ltb}
 use lib.ListN.{length, take, drop}
-use borrow.Author.Tests.{le-ltb}
+use borrow.Author.Tests.{le-ltb, ltb-false}
 use Rattle.rules.specs.Tests.{pick, first}
 use Rattle.rules.specs.Rules.{openRefusals}
 use Rattle.rules.specs.Tables.{Table, opened}
@@ -105,3 +105,17 @@ module _ (s : List ℕ) {out w : List ℕ} (p : printed s ≡ w) (long : 153609 
   unfolding reported reportRow
   report-is q =
       rw (le-ltb (length out) 153609 long, p) (ap Printed (q .ends ∙ zero-add (length w)), q .row)
+
+-- What was printed lies within the row, for callers that hand it on.
+pub report-within : (out s : List ℕ) {bytes : ℕ} → reported out s ≡ Printed bytes → bytes ≤ length out
+unfolding reported
+report-within out s {bytes} e =
+    decide (ltb (length out) 153609)
+    (λ t.
+      let f : Short ≡ Printed bytes = rw t at e in
+      let z : _≡_ {A = ℕ} 0 1 = cc in
+      absurd (omega arith))
+    (λ t.
+      let f : Printed (length (printed s)) ≡ Printed bytes = rw t at e in
+      let q : length (printed s) ≡ bytes = cc in
+      omega (arith, report-fits s, ltb-false (length out) 153609 t))

@@ -80,3 +80,7 @@ EntriesAllowed =
 -- No report is longer than the row that every report fits.
 abbrev pub ReportFits : Type 0
 ReportFits = (s : List ℕ) → length (printed s) ≤ reportBytes
+
+-- Something is always printed.
+abbrev pub PrintsSomething : Type 0
+PrintsSomething = (s : List ℕ) → 1 ≤ length (printed s)

@@ -1,0 +1,73 @@
+-- `boardcase::main` meets its contract, which says nothing: a call of it is safe and ends. What was printed lies within the row. Assumes nothing.
+use borrow.Author.Needs.{needs}
+use mathlib.Core.Path.{sym, _∙_}
+use lib.Seq.{length-take-le}
+use Rattle.casetext.proofs.Reports.{report-within}
+use Rattle.boardcase.proofs.main.Statement.{statement}
+use Rattle.boardcase.proofs.main.Tie as tie
+use Rattle.boardcase.proofs.main.Reads as reads
+use Rattle.boardcase.proofs.main.Lts as lts
+use Rattle.casetext.proofs.report.Reads as report-reads
+use Rattle.io.proofs.read_full.Reads as read-full-reads
+use Rattle.io.proofs.write_all.Reads as write-all-reads
+
+slice-aggregate-read-full : tie.Need-slice-aggregate-read-full
+slice-aggregate-read-full c = search needs
+
+read-full-requires : tie.Need-read-full-requires
+read-full-requires c κs = search needs
+
+array-share-prefix-text : tie.Need-array-share-prefix-text
+array-share-prefix-text c = search needs
+
+slice-aggregate-report : tie.Need-slice-aggregate-report
+slice-aggregate-report c = search needs
+
+slice-aggregate-report-2 : tie.Need-slice-aggregate-report-2
+slice-aggregate-report-2 c = search needs
+
+report-requires : tie.Need-report-requires
+report-requires c κs = search needs
+
+enum-known-came : tie.Need-enum-known-came
+enum-known-came c = search needs
+
+array-share-prefix-out : tie.Need-array-share-prefix-out
+array-share-prefix-out c =
+    let r = c .before .before .before .before .report in
+    rw (r .kept .1 .0) (report-within _ _ (sym (r .ensures .0) ∙ c .before .came .given .1))
+
+slice-aggregate-write-all : tie.Need-slice-aggregate-write-all
+slice-aggregate-write-all c =
+    let r = c .before .before .before .before .before .report in
+    sym (length-take-le _ (r .last .1 .0) (rw (r .kept .1 .0) (report-within _ _ (sym (r .ensures .0) ∙ c .before .before .came .given .1))))
+
+write-all-requires : tie.Need-write-all-requires
+write-all-requires c κs = search needs
+
+enum-told : tie.Need-enum-told
+enum-told c = search needs
+
+returns : tie.Need-returns
+returns c = search needs
+
+returns-2 : tie.Need-returns-2
+returns-2 c = search needs
+
+pub main-spec : {M : Type 1} → statement M
+main-spec =
+    tie.close
+    (tie.spec
+    slice-aggregate-read-full
+    read-full-requires
+    array-share-prefix-text
+    slice-aggregate-report
+    slice-aggregate-report-2
+    report-requires
+    enum-known-came
+    array-share-prefix-out
+    slice-aggregate-write-all
+    write-all-requires
+    enum-told
+    returns
+    returns-2)

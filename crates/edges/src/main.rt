@@ -1,0 +1,127 @@
+// Runs the situations at the limits of document 01 through the reader and the report, a line each: N = 64 and 65, texts of 32,768
+// and 32,769 bytes, 2,048 and 2,049 do lines. The texts are built here, so that nothing but the limits differs.
+ghost use Prim.Native.Nat.{_≤_};
+ghost use lib.ListN.{length};
+ghost use Rattle.io.specs.Counts.{Counts};
+use casetext::Reading;
+use casetext::Reported;
+use libc::STDOUT_FILENO;
+
+// Copies a line into a text from a place on, as far as there is room, and gives the place past it.
+fn put(text: &mut [u8], from: usize, line: &[u8]) -> usize
+    requires { ⌜ from ≤ length (now text) ⌝ }
+    ensures { λ r. ⌜ Counts r (now (text .exit)) ⌝ }
+{
+    let mut at = from;
+    let mut i = 0;
+    while i < line.len() {
+        if text.len() <= at {
+            return at;
+        }
+        text[at] = line[i];
+        at += 1;
+        i += 1;
+    }
+    at
+}
+
+// The same of a line, so many times.
+fn repeat(text: &mut [u8], from: usize, line: &[u8], times: usize) -> usize
+    requires { ⌜ from ≤ length (now text) ⌝ }
+    ensures { λ r. ⌜ Counts r (now (text .exit)) ⌝ }
+{
+    let mut at = from;
+    let mut k = 0;
+    while k < times {
+        at = put(text, at, line);
+        k += 1;
+    }
+    at
+}
+
+// A text of a head, a line so many times, and a tail; gives its length.
+fn build(text: &mut [u8], head: &[u8], line: &[u8], times: usize, tail: &[u8]) -> usize
+    ensures { λ r. ⌜ Counts r (now (text .exit)) ⌝ }
+{
+    let first = put(text, 0, head);
+    let last = repeat(text, first, line, times);
+    put(text, last, tail)
+}
+
+fn say(word: &[u8]) {
+    io::write_all(STDOUT_FILENO, word);
+}
+
+fn number(word: &[u8], n: u64) {
+    say(word);
+    io::print_decimal(STDOUT_FILENO, n);
+}
+
+// What the reader gives back.
+fn tell_reading(text: &[u8]) {
+    let mut entries = [0u32; 2048];
+    match casetext::read(text, &mut entries) {
+        Reading::Case { claimants, ceiling, count } => {
+            number(b" read claimants=", claimants as u64);
+            number(b" ceiling=", ceiling as u64);
+            number(b" entries=", count as u64);
+        }
+        Reading::Refused { number: refusal, line } => {
+            number(b" read refused=", refusal as u64);
+            number(b" line=", line as u64);
+        }
+    }
+}
+
+// Where the last line of a row's first bytes begins.
+fn last_line(row: &[u8], bytes: usize) -> usize
+    requires { ⌜ bytes ≤ length (now row) ⌝ }
+    ensures { λ r. ⌜ r ≤ bytes ⌝ }
+{
+    if bytes == 0 {
+        return 0;
+    }
+    let mut at = bytes - 1;
+    while 0 < at {
+        if row[at - 1] == 10 {
+            return at;
+        }
+        at -= 1;
+    }
+    at
+}
+
+// How long the report is, and its last line.
+fn tell_report(text: &[u8]) {
+    let mut out = [0u8; 153609];
+    let came = casetext::report(text, &mut out);
+    if let Reported::Printed(bytes) = came {
+        number(b"; report bytes=", bytes as u64);
+        say(b" ending ");
+        let from = last_line(&out, bytes);
+        say(&out[from..bytes]);
+    }
+}
+
+fn tell(name: &[u8], text: &[u8]) {
+    say(name);
+    tell_reading(text);
+    tell_report(text);
+}
+
+fn main() {
+    let mut text = [0u8; 40000];
+    // Claimant 64 of 64 is inside after 3 * 64 + 5 steps, and leaves.
+    let n = build(&mut text, b"claimants=64\nceiling=1\ndo=ask 64 7\n", b"do=step 64\n", 197, b"do=leave 64\n");
+    tell(b"N = 64:", &text[..n]);
+    let n = build(&mut text, b"claimants=65\nceiling=1\ndo=ask 64 7\n", b"do=step 64\n", 197, b"do=leave 64\n");
+    tell(b"N = 65:", &text[..n]);
+    let n = build(&mut text, b"claimants=1\nceiling=1\n", b"do=ask 10 10000\n", 2046, b"do=step 1\n");
+    tell(b"32768 bytes:", &text[..n]);
+    let n = build(&mut text, b"claimants=1\nceiling=1\n", b"do=ask 10 10000\n", 2046, b"do=step 10\n");
+    tell(b"32769 bytes:", &text[..n]);
+    let n = build(&mut text, b"claimants=1\nceiling=1\n", b"do=step 1\n", 2047, b"do=step 1\n");
+    tell(b"2048 do lines:", &text[..n]);
+    let n = build(&mut text, b"claimants=1\nceiling=1\n", b"do=step 1\n", 2048, b"do=step 1\n");
+    tell(b"2049 do lines:", &text[..n]);
+}
