@@ -112,10 +112,10 @@ unfolding reported
 report-within out s {bytes} e =
     decide (ltb (length out) 153609)
     (λ t.
-      let f : Short ≡ Printed bytes = rw t at e in
-      let z : _≡_ {A = ℕ} 0 1 = cc in
-      absurd (omega arith))
+    let f : Short ≡ Printed bytes = rw t at e in
+    let z : _≡_ {A = ℕ} 0 1 = cc in
+    absurd (omega arith))
     (λ t.
-      let f : Printed (length (printed s)) ≡ Printed bytes = rw t at e in
-      let q : length (printed s) ≡ bytes = cc in
-      omega (arith, report-fits s, ltb-false (length out) 153609 t))
+    let f : Printed (length (printed s)) ≡ Printed bytes = rw t at e in
+    let q : length (printed s) ≡ bytes = cc in
+    omega (arith, report-fits s, ltb-false (length out) 153609 t))

@@ -61,12 +61,19 @@ fn number(word: &[u8], n: u64) {
 fn tell_reading(text: &[u8]) {
     let mut entries = [0u32; 2048];
     match casetext::read(text, &mut entries) {
-        Reading::Case { claimants, ceiling, count } => {
+        Reading::Case {
+            claimants,
+            ceiling,
+            count,
+        } => {
             number(b" read claimants=", claimants as u64);
             number(b" ceiling=", ceiling as u64);
             number(b" entries=", count as u64);
         }
-        Reading::Refused { number: refusal, line } => {
+        Reading::Refused {
+            number: refusal,
+            line,
+        } => {
             number(b" read refused=", refusal as u64);
             number(b" line=", line as u64);
         }
@@ -112,16 +119,52 @@ fn tell(name: &[u8], text: &[u8]) {
 fn main() {
     let mut text = [0u8; 40000];
     // Claimant 64 of 64 is inside after 3 * 64 + 5 steps, and leaves.
-    let n = build(&mut text, b"claimants=64\nceiling=1\ndo=ask 64 7\n", b"do=step 64\n", 197, b"do=leave 64\n");
+    let n = build(
+        &mut text,
+        b"claimants=64\nceiling=1\ndo=ask 64 7\n",
+        b"do=step 64\n",
+        197,
+        b"do=leave 64\n",
+    );
     tell(b"N = 64:", &text[..n]);
-    let n = build(&mut text, b"claimants=65\nceiling=1\ndo=ask 64 7\n", b"do=step 64\n", 197, b"do=leave 64\n");
+    let n = build(
+        &mut text,
+        b"claimants=65\nceiling=1\ndo=ask 64 7\n",
+        b"do=step 64\n",
+        197,
+        b"do=leave 64\n",
+    );
     tell(b"N = 65:", &text[..n]);
-    let n = build(&mut text, b"claimants=1\nceiling=1\n", b"do=ask 10 10000\n", 2046, b"do=step 1\n");
+    let n = build(
+        &mut text,
+        b"claimants=1\nceiling=1\n",
+        b"do=ask 10 10000\n",
+        2046,
+        b"do=step 1\n",
+    );
     tell(b"32768 bytes:", &text[..n]);
-    let n = build(&mut text, b"claimants=1\nceiling=1\n", b"do=ask 10 10000\n", 2046, b"do=step 10\n");
+    let n = build(
+        &mut text,
+        b"claimants=1\nceiling=1\n",
+        b"do=ask 10 10000\n",
+        2046,
+        b"do=step 10\n",
+    );
     tell(b"32769 bytes:", &text[..n]);
-    let n = build(&mut text, b"claimants=1\nceiling=1\n", b"do=step 1\n", 2047, b"do=step 1\n");
+    let n = build(
+        &mut text,
+        b"claimants=1\nceiling=1\n",
+        b"do=step 1\n",
+        2047,
+        b"do=step 1\n",
+    );
     tell(b"2048 do lines:", &text[..n]);
-    let n = build(&mut text, b"claimants=1\nceiling=1\n", b"do=step 1\n", 2048, b"do=step 1\n");
+    let n = build(
+        &mut text,
+        b"claimants=1\nceiling=1\n",
+        b"do=step 1\n",
+        2048,
+        b"do=step 1\n",
+    );
     tell(b"2049 do lines:", &text[..n]);
 }

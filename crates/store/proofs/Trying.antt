@@ -12,8 +12,9 @@ use Rattle.rules.specs.Records.{blank}
 use Rattle.rules.specs.Tables.{Table, opened, allWellFormed}
 use Rattle.rules.specs.declared.Terms.{Terms}
 use Rattle.rules.proofs.Choices.{decide}
+use Rattle.store.specs.Entries.{rowsFor}
 use Rattle.store.specs.Runs.{outcomeOf}
-use Rattle.store.specs.Trials.{termsOf, rowsFor, traced, trialRefusal, leftUnless, trialLeft, trialOutcome}
+use Rattle.store.specs.Trials.{termsOf, traced, trialRefusal, leftUnless, trialLeft, trialOutcome}
 use Rattle.store.proofs.Entering.{blank-formed}
 
 pub blank-table : (n : ℕ) (k : Terms) (m : ℕ) → allWellFormed n k (replicate m blank) ≡ true

@@ -14,10 +14,6 @@ use Rattle.store.specs.declared.Outcome.{Outcome}
 use Rattle.store.specs.Schedules.{claimantIn, decoded, entered}
 use Rattle.store.specs.Runs.{outcomeOf}
 
--- As many rows as claimants; none for more than 64, which is refused as none is.
-unfoldable pub rowsFor : (claimants : ℕ) → ℕ
-rowsFor n = pick (ltb 64 n) 0 n
-
 abbrev pub termsOf : (ceiling : ℕ) → Terms
 termsOf c = record { ceiling = c }
 

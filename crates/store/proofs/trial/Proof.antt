@@ -10,8 +10,9 @@ use Rattle.rules.specs.Records.{blank}
 use Rattle.rules.specs.Tables.{allWellFormed}
 use Rattle.rules.specs.declared.Claimant.{Claimant}
 use Rattle.rules.specs.declared.Terms.{Terms}
+use Rattle.store.specs.Entries.{rowsFor}
 use Rattle.store.specs.Runs.{outcomeOf}
-use Rattle.store.specs.Trials.{termsOf, rowsFor, trialRefusal, leftUnless}
+use Rattle.store.specs.Trials.{termsOf, trialRefusal, leftUnless}
 use Rattle.store.proofs.Elements.{Row, TermsE, OutcomeE}
 use Rattle.store.proofs.Trying.{blank-table, few-rows, tried}
 use Rattle.store.proofs.Values.{blank-record, rows-for, terms-of}
