@@ -3,7 +3,7 @@ use Prim.Native.Nat.{ℕ, _*_}
 use mathlib.Core.List.{List, [], _∷_, _++_}
 use lib.Dec.{eqb, ltb}
 use lib.ListN.{length, drop}
-use Rattle.rules.specs.Tests.{pick, Refusal, _when_, first}
+use Rattle.rules.specs.Tests.{pick, _when_, first}
 use Rattle.rules.specs.Answers.{numberOf}
 use Rattle.rules.specs.Rules.{openRefusals}
 use Rattle.rules.specs.Tables.{Table, opened, recordOf}
