@@ -10,9 +10,10 @@ use lib.ListN.{length, getD, drop, drop-of-length-le}
 use lib.Seq.{drop-cons}
 use lib.Dec.{eqb, leb}
 use borrow.Author.Tests.{lt-ltb, le-ltb, le-leb, lt-leb, leb-true}
-use Rattle.casetext.specs.Words.{pick}
+use Rattle.rules.specs.Tests.{pick}
 use Rattle.casetext.specs.Pieces.{begins, digitsFrom, isDigit, numberAt, fieldAt}
-use Rattle.casetext.proofs.Choices.{decide, not-found}
+use Rattle.rules.proofs.Choices.{decide}
+use Rattle.casetext.proofs.Finding.{not-found}
 use Rattle.casetext.specs.declared.Found.{Found}
 use Rattle.casetext.specs.declared.Found.the-variants.{Is, Broken}
 

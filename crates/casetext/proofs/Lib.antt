@@ -1,5 +1,5 @@
 -- Laws on plain lists and numbers, for the proofs of this crate's functions and theorems.
-pub mod Choices
+pub mod Finding
 pub mod Words
 pub mod Digits
 pub mod Gathering

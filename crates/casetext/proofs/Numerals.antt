@@ -10,11 +10,12 @@ use lib.Dec.{eqb, leb, ltb}
 use lib.ListN.{length, getD, drop, length-append}
 use lib.Seq.{drop-append-seam, drop-cons}
 use borrow.Author.Tests.{lt-ltb, le-ltb, le-leb, ltb-true, ltb-false, leb-true, eq-eqb, ne-eqb, eqb-true, eqb-false}
-use Rattle.casetext.specs.Words.{pick}
+use Rattle.rules.specs.Tests.{pick}
 use Rattle.casetext.specs.Numerals.{numeral, numeralWithin}
 use Rattle.casetext.specs.Pieces.{isDigit, digitsFrom, numberAt}
 use Rattle.casetext.specs.declared.Found.the-variants.{Is, Broken}
-use Rattle.casetext.proofs.Choices.{decide, clash, not-found}
+use Rattle.rules.proofs.Choices.{decide, true-not-false}
+use Rattle.casetext.proofs.Finding.{not-found}
 use Rattle.casetext.proofs.Words.{byte-inside}
 use Rattle.casetext.proofs.Digits.{is-digit, digits-most}
 use Rattle.casetext.proofs.Stands.{Stands, stands-as, first-byte, byte-stands}
@@ -128,8 +129,8 @@ module _ (most : ℕ) {s : List ℕ} {at next : ℕ} where
 
 digit-range : (b : ℕ) → isDigit b ≡ true → (48 ≤ b) × (b ≤ 57)
 digit-range b e =
-    decide (ltb b 48) (λ t. clash (rw t at e))
-    (λ t. decide (ltb 57 b) (λ u. clash (rw (t, u) at e)) (λ u. (ltb-false b 48 t, ltb-false 57 b u)))
+    decide (ltb b 48) (λ t. true-not-false (sym (rw t at e)))
+    (λ t. decide (ltb 57 b) (λ u. true-not-false (sym (rw (t, u) at e))) (λ u. (ltb-false b 48 t, ltb-false 57 b u)))
 
 -- digits that were read on from a number are the end of the numeral that they come to
 record ReadOn (l : List ℕ) (v at n next : ℕ) : Type 0 where

@@ -1,25 +1,30 @@
 -- The promises of the reader, kept.
 -- Assumes nothing.
-use Prim.Native.Nat.{ℕ, zero, suc, _+_, _-_, _*_, _/_, _%_, _≤_, _<_}
+use Prim.Native.Nat.{ℕ, zero, suc, _+_, _-_, _*_, _≤_, _<_}
 use native.Mathlib.Omega.{arith}
 use mathlib.Core.Path.{_≡_, refl, sym, ap, _∙_}
 use mathlib.Core.Bool.{Bool, true, false}
 use mathlib.Core.List.{List, [], _∷_, _++_, append-assoc, append-nil, map}
 use lib.Dec.{leb, ltb}
 use lib.ListN.{length, getD, drop, length-drop, drop-of-length-le}
-use borrow.Author.Tests.{le-ltb, lt-ltb, ltb-true, ltb-false, leb-true, leb-false}
+use borrow.Author.Tests.{le-ltb, lt-ltb, ltb-true, ltb-false, leb-true, leb-false, eq-eqb, ne-eqb}
+use Rattle.rules.specs.declared.Call.{Call}
+use Rattle.rules.specs.declared.Call.the-variants.{Ask, Step, Leave}
+use Rattle.store.specs.Schedules.{kindIn, claimantIn, sessionIn, decoded}
+use Rattle.store.specs.declared.Entry.the-variants.{Made}
 use Rattle.casetext.specs.Words.{ascii}
-use Rattle.casetext.specs.Layout.{Turn, InRange, AllInRange, entryOf, lineText, doText, doTexts, headText, caseText, Writes}
+use Rattle.casetext.specs.Layout.{Turn, InRange, AllInRange, entry, entryOf, lineText, doText, doTexts, headText, caseText, Writes}
 use Rattle.casetext.specs.Layout.Turn.{ask, step, leave}
 use Rattle.casetext.specs.Lines.{lineAt, doLineAt}
 use Rattle.casetext.specs.Reading.{Said, before, doLines, fromLine2, fromLine3, reading}
 use Rattle.casetext.specs.Reading.Said.{accepted, refused}
-use Rattle.casetext.specs.Promises.{IsCase, AcceptedExactly, OneReading, NoNumberLine, NoDoLine, FirstBad, TooMany, Cause, RefusedExactly, EntriesAllowed}
+use Rattle.casetext.specs.Promises.{IsCase, AcceptedExactly, OneReading, NoNumberLine, NoDoLine, FirstBad, TooMany, Cause, RefusedExactly, EntriesMade}
 use Rattle.casetext.specs.Promises.FirstBad.{line-1, line-2, line-3-on}
 use Rattle.casetext.specs.Promises.Cause.{long, broken, many}
 use Rattle.casetext.specs.declared.Found.{Found}
 use Rattle.casetext.specs.declared.Found.the-variants.{Is, Broken}
-use Rattle.casetext.proofs.Choices.{decide, not-found}
+use Rattle.rules.proofs.Choices.{decide}
+use Rattle.casetext.proofs.Finding.{not-found}
 use Rattle.casetext.proofs.Gathering.{lines-end, lines-broken, lines-full}
 use Rattle.casetext.proofs.Stands.{Stands, stands-at, rest-at}
 use Rattle.casetext.proofs.Turns.{line-found, line-stands, do-found, do-stands}
@@ -262,11 +267,23 @@ one-reading s n k n′ k′ ts ts′ w w′ =
     let r : accepted 0 0 (map entryOf ts) ≡ accepted 0 0 (map entryOf ts′) = sym p ∙ q in
     (cc, cc, one-schedule ts ts′ (w .ranged) (w′ .ranged) (cc))
 
-allowed : (t : Turn) → InRange t → (entryOf t / 16777216 ≤ 2) × ((entryOf t / 16777216 ≡ 1 → ⊥) → entryOf t % 65536 ≡ 0)
-unfolding InRange entryOf
-allowed (ask w s) h = (omega arith, λ o. let one : (1 * 16777216 + w * 65536 + s) / 16777216 ≡ 1 = omega arith in absurd (o one))
-allowed (step w) h = (omega arith, λ o. omega arith)
-allowed (leave w) h = (omega arith, λ o. omega arith)
+-- A turn's entry makes the call that it says.
+made : (t : Turn) → InRange t → (c : Call) × (decoded (entryOf t) ≡ Made c)
+unfolding InRange entryOf decoded
+made (ask w s) h =
+    let e = entry 1 w s in
+    let one : kindIn e ≡ 1 = omega arith in
+    (Ask (claimantIn e) (sessionIn e), rw (ne-eqb (kindIn e) 0 (omega arith), eq-eqb (kindIn e) 1 one))
+made (step w) h =
+    let e = entry 0 w 0 in
+    let zero : kindIn e ≡ 0 = omega arith in
+    let none : sessionIn e ≡ 0 = omega arith in
+    (Step (claimantIn e), rw (eq-eqb (kindIn e) 0 zero, eq-eqb (sessionIn e) 0 none))
+made (leave w) h =
+    let e = entry 2 w 0 in
+    let two : kindIn e ≡ 2 = omega arith in
+    let none : sessionIn e ≡ 0 = omega arith in
+    (Leave (claimantIn e), rw (ne-eqb (kindIn e) 0 (omega arith), ne-eqb (kindIn e) 1 (omega arith), eq-eqb (kindIn e) 2 two, eq-eqb (sessionIn e) 0 none))
 
 all-first : (t : Turn) (ts : List Turn) → AllInRange (t ∷ ts) → InRange t
 unfolding AllInRange
@@ -276,13 +293,12 @@ all-rest : (t : Turn) (ts : List Turn) → AllInRange (t ∷ ts) → AllInRange 
 unfolding AllInRange
 all-rest t ts r = r .1
 
-pub entries-allowed : EntriesAllowed
-entries-allowed s n k es e i h =
+pub entries-made : EntriesMade
+entries-made s n k es e i h =
     let c = accepted-exactly s n k es .0 e in
     rw (c .says) (at (c .turns) (c .written .ranged) i (rw (c .says) at h))
   where
-    at : (ts : List Turn) → AllInRange ts → (i : ℕ) → i < length (map entryOf ts)
-        → (getD (map entryOf ts) i 0 / 16777216 ≤ 2) × ((getD (map entryOf ts) i 0 / 16777216 ≡ 1 → ⊥) → getD (map entryOf ts) i 0 % 65536 ≡ 0)
+    at : (ts : List Turn) → AllInRange ts → (i : ℕ) → i < length (map entryOf ts) → (c : Call) × (decoded (getD (map entryOf ts) i 0) ≡ Made c)
     at [] r i h = absurd (omega arith)
-    at (t ∷ ts) r zero h = allowed t (all-first t ts r)
+    at (t ∷ ts) r zero h = made t (all-first t ts r)
     at (t ∷ ts) r (suc i) h = at ts (all-rest t ts r) i (omega arith)

@@ -17,7 +17,8 @@ use Rattle.casetext.specs.Reading.Said.{accepted, refused}
 use Rattle.casetext.specs.Promises.{NoDoLine}
 use Rattle.casetext.specs.declared.Found.{Found}
 use Rattle.casetext.specs.declared.Found.the-variants.{Is, Broken}
-use Rattle.casetext.proofs.Choices.{decide, not-found}
+use Rattle.rules.proofs.Choices.{decide}
+use Rattle.casetext.proofs.Finding.{not-found}
 use Rattle.casetext.proofs.Gathering.{lines-end, lines-broken, lines-full, lines-more, before-none, before-before}
 use Rattle.casetext.proofs.Stands.{Stands, stands-at, rest-at}
 use Rattle.casetext.proofs.Turns.{do-found, do-stands}

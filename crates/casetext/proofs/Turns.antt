@@ -8,7 +8,8 @@ use mathlib.Core.List.{List, [], _∷_, _++_}
 use lib.Dec.{eqb}
 use lib.ListN.{length, getD, drop}
 use borrow.Author.Tests.{eqb-true}
-use Rattle.casetext.specs.Words.{ascii, pick}
+use Rattle.rules.specs.Tests.{pick}
+use Rattle.casetext.specs.Words.{ascii}
 use Rattle.casetext.specs.Numerals.{numeral}
 use Rattle.casetext.specs.Layout.{Turn, InRange, entryOf, entry, fieldText, lineText, turnText, doText}
 use Rattle.casetext.specs.Layout.Turn.{ask, step, leave}
@@ -16,7 +17,8 @@ use Rattle.casetext.specs.Pieces.{begins, numberAt, fieldAt}
 use Rattle.casetext.specs.Lines.{ended, lineAt, ofKind, calledAt, withSession, askedBy, thenSession, askAt, turnAt, doLineAt}
 use Rattle.casetext.specs.declared.Found.{Found}
 use Rattle.casetext.specs.declared.Found.the-variants.{Is, Broken}
-use Rattle.casetext.proofs.Choices.{decide, not-found}
+use Rattle.rules.proofs.Choices.{decide}
+use Rattle.casetext.proofs.Finding.{not-found}
 use Rattle.casetext.proofs.Digits.{number-most, field-most}
 use Rattle.casetext.proofs.Stands.{Stands, stands-both, stands-left, stands-right, word-stands, word-found, first-byte, byte-stands}
 use Rattle.casetext.proofs.Numerals.{NoDigit, number-found, number-stands}

@@ -3,15 +3,15 @@
 use Prim.Native.Nat.{ℕ, zero, suc, _+_, _-_, _≤_, _<_, suc-le-suc}
 use native.Mathlib.Numerals.{add-one}
 use native.Mathlib.Omega.{arith}
-use mathlib.Core.Path.{_≡_, refl, ap}
+use mathlib.Core.Path.{_≡_, refl, sym, ap}
 use mathlib.Core.Bool.{Bool, true, false}
 use mathlib.Core.List.{List, [], _∷_, _++_}
 use lib.Dec.{eqb}
 use lib.ListN.{length, getD, drop, drop-of-length-le, length-append, length-drop}
 use lib.Seq.{drop-cons}
 use borrow.Author.Tests.{eq-eqb, ne-eqb, eqb-true}
-use Rattle.casetext.specs.Words.{pick}
-use Rattle.casetext.proofs.Choices.{decide, clash}
+use Rattle.rules.specs.Tests.{pick}
+use Rattle.rules.proofs.Choices.{decide, true-not-false}
 use Rattle.casetext.specs.Pieces.{begins}
 
 module _ (w s : List ℕ) (i at : ℕ) (more : i < length w) where
@@ -32,11 +32,11 @@ module _ (w s : List ℕ) (i at : ℕ) (more : i < length w) where
 pub begins-true : (w l : List ℕ) → begins w l ≡ true → l ≡ w ++ drop (length w) l
 unfolding begins
 begins-true [] l e = refl
-begins-true (c ∷ cs) [] e = clash e
+begins-true (c ∷ cs) [] e = true-not-false (sym e)
 begins-true (c ∷ cs) (b ∷ bs) e =
     decide (eqb b c)
     (λ q. rw (eqb-true b c q) (ap (λ (l : List ℕ). c ∷ l) (begins-true cs bs (rw q at e))))
-    (λ q. let z : false ≡ true = rw q at e in clash z)
+    (λ q. let z : false ≡ true = rw q at e in true-not-false (sym z))
 
 pub begins-append : (w l : List ℕ) → begins w (w ++ l) ≡ true
 unfolding begins

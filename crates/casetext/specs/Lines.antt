@@ -3,7 +3,8 @@ use Prim.Native.Nat.{ℕ, _+_}
 use mathlib.Core.List.{List}
 use lib.ListN.{getD, drop}
 use lib.Dec.{eqb}
-use Rattle.casetext.specs.Words.{ascii, pick}
+use Rattle.rules.specs.Tests.{pick}
+use Rattle.casetext.specs.Words.{ascii}
 use Rattle.casetext.specs.Layout.{entry}
 use Rattle.casetext.specs.Pieces.{begins, numberAt, fieldAt}
 use Rattle.casetext.specs.declared.Found.{Found}

@@ -2,7 +2,7 @@
 use Prim.Native.Nat.{ℕ, zero, suc, _+_, _/_, _%_}
 use mathlib.Core.List.{List, [], _∷_, _++_}
 use lib.Dec.{ltb}
-use Rattle.casetext.specs.Words.{pick}
+use Rattle.rules.specs.Tests.{pick}
 
 -- The digits of n where there are at most this many: those of n / 10, unless n is a single digit, and then the last one.
 unfoldable pub numeralWithin : ℕ → ℕ → List ℕ

@@ -1,9 +1,12 @@
 -- What is promised of the reader and of the report: the texts accepted and refused are exactly those that 01 names.
-use Prim.Native.Nat.{ℕ, _+_, _/_, _%_, _≤_, _<_}
+use Prim.Native.Nat.{ℕ, _+_, _≤_, _<_}
 use mathlib.Core.Path.{_≡_}
 use mathlib.Core.Logic.{_↔_}
 use mathlib.Core.List.{List, [], _∷_, _++_, map}
 use lib.ListN.{length, getD}
+use Rattle.rules.specs.declared.Call.{Call}
+use Rattle.store.specs.Schedules.{decoded}
+use Rattle.store.specs.declared.Entry.the-variants.{Made}
 use Rattle.casetext.specs.Words.{ascii}
 use Rattle.casetext.specs.Layout.{Turn, InRange, AllInRange, entryOf, lineText, doText, caseText, Writes}
 use Rattle.casetext.specs.Reading.{reading}
@@ -70,12 +73,11 @@ pub data Cause (s : List ℕ) (number line : ℕ) : Type 0 where
 abbrev pub RefusedExactly : Type 0
 RefusedExactly = (s : List ℕ) (number line : ℕ) → reading s ≡ refused number line ↔ Cause s number line
 
--- Every entry given back has a kind and a session field that refusal 9 does not name.
-abbrev pub EntriesAllowed : Type 0
-EntriesAllowed =
+-- Every entry given back makes a call: it has no kind and no session field that refusal 9 names.
+abbrev pub EntriesMade : Type 0
+EntriesMade =
     (s : List ℕ) (n k : ℕ) (entries : List ℕ) → reading s ≡ accepted n k entries
-    → (i : ℕ) → i < length entries
-    → (getD entries i 0 / 16777216 ≤ 2) × ((getD entries i 0 / 16777216 ≡ 1 → ⊥) → getD entries i 0 % 65536 ≡ 0)
+    → (i : ℕ) → i < length entries → (c : Call) × (decoded (getD entries i 0) ≡ Made c)
 
 -- No report is longer than the row that every report fits.
 abbrev pub ReportFits : Type 0

@@ -4,7 +4,8 @@ use mathlib.Core.Path.{_≡_}
 use mathlib.Core.List.{List, [], _∷_, _++_}
 use lib.ListN.{length, drop, take}
 use lib.Dec.{leb, ltb}
-use Rattle.casetext.specs.Words.{ascii, pick}
+use Rattle.rules.specs.Tests.{pick}
+use Rattle.casetext.specs.Words.{ascii}
 use Rattle.casetext.specs.Lines.{lineAt, doLineAt}
 use Rattle.casetext.specs.declared.Found.{Found}
 use Rattle.casetext.specs.declared.Found.the-variants.{Is, Broken}
