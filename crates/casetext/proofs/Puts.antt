@@ -5,8 +5,9 @@ use native.Mathlib.Nat.{one-le-pow}
 use native.Mathlib.Omega.{arith}
 use mathlib.Core.Path.{_≡_, refl, sym, ap, _∙_}
 use mathlib.Core.List.{List, [], _∷_, _++_, append-assoc}
-use lib.ListN.{length, take, drop, length-append, length-take, length-drop}
-use lib.Seq.{take-at, drop-at, drop-drop, length-take-le, take-length, paste}
+use native.Mathlib.Numerals.{add-one}
+use lib.ListN.{length, take, drop, set, length-append, length-take, length-drop}
+use lib.Seq.{set-split, take-at, drop-at, drop-drop, length-take-le, take-length, paste}
 use lib.Dec.{ltb}
 use borrow.Author.Tests.{lt-ltb, ltb-true, ltb-false}
 use Rattle.io.specs.Digits.{digits, glyph, Fewest}
@@ -54,6 +55,22 @@ module _ {held : List ℕ} {at : ℕ} (w v : List ℕ) (room : Room held at (w +
       ends = omega (arith, p .ends, q .ends, length-append w v);
       row = q .row ∙ rw (p .row, p .ends) (put-put held at w (room-first .fits) v);
     }
+
+-- a single digit, stored as a byte
+one-put : (held : List ℕ) (at d : ℕ) → at + 1 ≤ length held → Wrote held at (d ∷ []) (at + 1) (set held at d)
+unfolding put
+one-put held at d h =
+    record {
+      ends = omega arith;
+      row = set-split held at d (omega arith) ∙ rw (append-assoc (take at held) (d ∷ []) (drop (at + 1) held), add-one at);
+    }
+
+module _ (held : List ℕ) (at n : ℕ) (l : n < 10) (room : Room held at (numeral n)) where
+  pub digit-room : at < length held
+  digit-room = let h : Room held at ((48 + n) ∷ []) = rw (numeral-one n l) at room in omega (arith, h .fits)
+
+  pub digit-put : Wrote held at (numeral n) (at + 1) (set held at (48 + n))
+  digit-put = rw (numeral-one n l) (one-put held at (48 + n) (omega (arith, digit-room)))
 
 -- a word that was copied whole
 pub put-all : (held : List ℕ) (at : ℕ) (w : List ℕ) → paste held at w (length w) ≡ put held at w

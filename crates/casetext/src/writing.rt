@@ -17,11 +17,15 @@ pub fn put_word(out: &mut [u8], at: usize, name: &[u8]) -> usize
     at + i
 }
 
-// A number's decimal digits.
+// A number's decimal digits. Most numbers of a report are a single one, which is written straight into the row.
 fn put_number(out: &mut [u8], at: usize, n: u32) -> usize
     requires { ⌜ Room (now out) at (numeral n) ⌝ }
     ensures { λ r. ⌜ Wrote (now (out .entry)) at (numeral n) r (now (out .exit)) ⌝ }
 {
+    if n < 10 {
+        out[at] = 48 + n as u8;
+        return at + 1;
+    }
     let mut digits = [0u8; 20];
     let k = io::decimal(n as u64, &mut digits);
     put_word(out, at, &digits[..k])

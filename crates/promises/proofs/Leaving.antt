@@ -42,15 +42,10 @@ data Closing : (m p : ℕ) → Type 0 where
   session-left : Closing 1 12
   token-left : Closing 2 11
 
-none-left : {m p : ℕ} → Closing m p → p ≡ 0 ↔ m ≤ 0
-none-left at-rest = omega arith
-none-left session-left = omega arith
-none-left token-left = omega arith
-
-not-inside : {m p : ℕ} → Closing m p → p ≢ 10
-not-inside at-rest = omega arith
-not-inside session-left = omega arith
-not-inside token-left = omega arith
+closing-place : {m p : ℕ} → Closing m p → (p ≡ 0 ↔ m ≤ 0) × (p ≢ 10)
+closing-place at-rest = omega arith
+closing-place session-left = omega arith
+closing-place token-left = omega arith
 
 module _ (n : ℕ) (k : Terms) (i : ℕ) where
   -- The call leaves it with m′ of the m steps that it has to make.
@@ -106,7 +101,7 @@ module _ (n : ℕ) (k : Terms) (i : ℕ) where
       decide (eqb w i)
       (λ q. absurd (omega (arith, rw q at h)))
       (λ q. passed-by (Ask w v) t g e (λ r b. eqb-false w i q r) refl)
-  next-call (Leave w) cs t s g e h = passed-by (Leave w) t g e (λ r b. not-inside g (sym e ∙ b)) refl
+  next-call (Leave w) cs t s g e h = passed-by (Leave w) t g e (λ r b. closing-place g .1 (sym e ∙ b)) refl
   next-call (Step w) cs t s g e h =
       decide (eqb w i)
       (λ q. rw (eqb-true w i q) (own-step t s g e))
@@ -115,7 +110,7 @@ module _ (n : ℕ) (k : Terms) (i : ℕ) where
   rests : {m p : ℕ} (cs : List Call) (t : Table) → Sound n k t → Closing m p → placeOf t i ≡ p → count (askOf i) k cs t ≡ 0
       → placeOf (after k cs t) i ≡ 0 ↔ m ≤ count (stepOf i) k cs t
   unfolding after count
-  rests [] t s g e h = rw e (none-left g)
+  rests [] t s g e h = rw e (closing-place g .0)
   rests (c ∷ cs) t s g e h =
       let l = next-call c cs t s g e h in
       let x = l .steps (count (stepOf i) k cs (called k c t .table)) in

@@ -4,9 +4,11 @@ pub mod Exclusion
 pub mod Lateness
 pub mod Steps
 pub mod Overtaking
+pub mod Runs
 pub mod Computing
 pub mod Witnesses
 pub mod OneRegister
 pub mod Waiting
 pub mod Alone
 pub mod Leaving
+pub mod Situations

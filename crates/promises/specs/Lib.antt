@@ -1,5 +1,7 @@
 pub mod Sequences
 pub mod Fairness
+pub mod Runs
 pub mod OneRegister
 pub mod Waiting
 pub mod Witnesses
+pub mod Situations

@@ -1,23 +1,21 @@
 -- On a sound table an entry does to its caller's record what it does to the table.
-use mathlib.Core.Path.{_≡_, refl, sym, _∙_, ap}
-use mathlib.Core.Bool.{Bool, true, false, not}
-use mathlib.Core.List.{List, [], _∷_}
+use mathlib.Core.Path.{_≡_, refl}
+use mathlib.Core.Bool.{true, false}
+use mathlib.Core.List.{List}
 use Prim.Native.Nat.{ℕ, _-_}
 use native.Mathlib.Omega.{arith}
-use lib.Dec.{eqb}
 use lib.ListN.{length, set}
 use lib.Seq.{set-out}
 use borrow.Author.Tests.{ne-eqb}
-use Rattle.rules.specs.Tests.{pick, within, Refusal, first}
+use Rattle.rules.specs.Tests.{within, Refusal, first}
 use Rattle.rules.specs.Records.{blank}
 use Rattle.rules.specs.Places.{rows, placeAt, fits, wellFormed}
 use Rattle.rules.specs.Rules.{readAt, reads, refusals, unless, asked, stepTaken, left}
-use Rattle.rules.specs.Tables.{Table, recordOf, valueRead, caller, turn, Called, called, Opens, Sound}
+use Rattle.rules.specs.Tables.{Table, valueRead, caller, turn, Opens, Sound}
 use Rattle.rules.specs.declared.Terms.{Terms}
 use Rattle.rules.specs.declared.Turn.{Turn}
 use Rattle.rules.specs.declared.Call.{Call}
 use Rattle.rules.specs.declared.Call.the-variants.{Ask, Step, Leave}
-use Rattle.rules.specs.declared.Answer.{Answer}
 use Rattle.rules.specs.declared.Answer.the-variants.{Refused}
 use Rattle.rules.proofs.Choices.{decide, within-true, within-holds}
 use Rattle.rules.proofs.Calls.{called-here, called-elsewhere}

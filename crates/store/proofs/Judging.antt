@@ -11,7 +11,7 @@ use Rattle.rules.specs.Tests.{pick, within, Refusal, _when_, first}
 use Rattle.rules.specs.Rules.{openRefusals}
 use Rattle.rules.specs.Tables.{Table, allWellFormed, Opens, Sound}
 use Rattle.rules.specs.declared.Terms.{Terms}
-use Rattle.rules.proofs.Choices.{decide, within-true}
+use Rattle.rules.proofs.Choices.{within-true}
 use Rattle.store.specs.Entries.{tableBar}
 use Rattle.store.specs.Runs.{runRefusal}
 use Rattle.store.specs.Trials.{trialRefusal}

@@ -1,7 +1,7 @@
 -- The lowest broken record, as a loop finds it: what it is in the whole table, it is in what is left from row i on.
-use mathlib.Core.Path.{_≡_, refl, sym, _∙_}
-use mathlib.Core.Bool.{Bool, true, false, not}
-use mathlib.Core.List.{List, [], _∷_}
+use mathlib.Core.Path.{_≡_, refl}
+use mathlib.Core.Bool.{true, false}
+use mathlib.Core.List.{[], _∷_}
 use Prim.Native.Nat.{ℕ, suc, _+_, _<_}
 use native.Mathlib.Numerals.{add-one}
 use native.Mathlib.Omega.{arith}
@@ -9,7 +9,6 @@ use lib.Dec.{eqb}
 use borrow.Author.Tests.{ne-eqb}
 use lib.ListN.{length, getD, drop}
 use lib.Seq.{drop-cons, drop-length}
-use Rattle.rules.specs.Tests.{_and_}
 use Rattle.rules.specs.Records.{blank}
 use Rattle.rules.specs.Places.{wellFormed}
 use Rattle.rules.specs.Tables.{Table, allWellFormed}

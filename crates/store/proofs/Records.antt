@@ -1,14 +1,12 @@
 -- Where a claimant's record stands in the row, and what is read and written there.
-use mathlib.Core.Path.{_≡_, refl, sym, _∙_}
-use mathlib.Core.Bool.{true, false}
-use mathlib.Core.Logic.{_⊎_, inl, inr}
+use mathlib.Core.Path.{_≡_, refl, sym}
+use mathlib.Core.Bool.{false}
 use Prim.Native.Nat.{ℕ, zero, suc, _-_, _≤_, _<_}
 use native.Mathlib.Omega.{arith}
-use lib.ListN.{length, getD, set}
+use lib.ListN.{length, getD}
 use lib.Seq.{set-out}
-use lib.Dec.{leb}
 use borrow.Author.Tests.{le-leb, leb-false}
-use Rattle.rules.specs.Tests.{pick, _and_, within}
+use Rattle.rules.specs.Tests.{within}
 use Rattle.rules.specs.Records.{blank}
 use Rattle.rules.specs.Tables.{Table, recordOf}
 use Rattle.rules.specs.declared.Claimant.{Claimant}

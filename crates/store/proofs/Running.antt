@@ -1,20 +1,19 @@
 -- A run, entry by entry: what is left of the schedule, run from the table as it is, ends as the whole does.
-use mathlib.Core.Path.{_≡_, refl, sym, _∙_, ap}
-use mathlib.Core.Bool.{Bool, true, false, not}
+use mathlib.Core.Path.{_≡_, refl, sym, _∙_}
+use mathlib.Core.Bool.{true, false, not}
 use mathlib.Core.List.{List, [], _∷_, _++_, map}
-use Prim.Native.Nat.{ℕ, suc, _+_, _*_, _<_, _≤_}
+use Prim.Native.Nat.{ℕ, _+_, _*_, _<_, _≤_}
 use native.Mathlib.Numerals.{add-one}
 use native.Mathlib.Omega.{arith}
-use lib.Dec.{T, eqb, ltb}
+use lib.Dec.{eqb}
 use lib.ListN.{length, getD, drop}
 use lib.Seq.{drop-cons, drop-length}
 use borrow.Author.Tests.{eq-eqb, ne-eqb}
-use Rattle.rules.specs.Tests.{pick}
 use Rattle.rules.specs.Answers.{byteOf}
-use Rattle.rules.specs.Tables.{Table, recordOf, allWellFormed, Sound}
+use Rattle.rules.specs.Tables.{Table, recordOf, Sound}
 use Rattle.rules.specs.declared.Terms.{Terms}
 use Rattle.rules.specs.declared.Answer.{Answer}
-use Rattle.store.specs.Runs.{outcomeOf, lowestBroken, runRefusal, Ran, running}
+use Rattle.store.specs.Runs.{outcomeOf, lowestBroken, runRefusal, running}
 use Rattle.store.specs.Schedules.{claimantIn, decoded, entered, ran, answered}
 use Rattle.store.specs.Trials.{five, traced, trialRefusal, leftUnless}
 use Rattle.store.proofs.Entering.{sound-entered}

@@ -1,19 +1,20 @@
 -- A trial's own table: it is well-formed, and more claimants than a table can have are refused as none are.
-use mathlib.Core.Path.{_≡_, refl, sym, _∙_}
-use mathlib.Core.Bool.{Bool, true, false, not}
-use mathlib.Core.List.{List, [], _∷_, _++_}
-use Prim.Native.Nat.{ℕ, zero, suc, _*_, _≤_, _<_}
+use mathlib.Core.Path.{_≡_, refl}
+use mathlib.Core.Bool.{true}
+use mathlib.Core.List.{List, []}
+use Prim.Native.Nat.{ℕ, zero, suc, _≤_, _<_}
 use native.Mathlib.Omega.{arith}
-use lib.Dec.{eqb, leb, ltb}
-use lib.ListN.{length, drop, replicate, length-replicate}
+use lib.Dec.{ltb}
+use lib.ListN.{length, replicate, length-replicate}
 use borrow.Author.Tests.{le-leb, lt-leb, ltb-true, ltb-false}
-use Rattle.rules.specs.Tests.{pick, _and_, within, first}
+use Rattle.rules.specs.Tests.{first}
 use Rattle.rules.specs.Records.{blank}
 use Rattle.rules.specs.Tables.{Table, opened, allWellFormed}
 use Rattle.rules.specs.declared.Terms.{Terms}
 use Rattle.rules.proofs.Choices.{decide}
+use Rattle.store.specs.Entries.{rowsFor}
 use Rattle.store.specs.Runs.{outcomeOf}
-use Rattle.store.specs.Trials.{termsOf, rowsFor, traced, trialRefusal, leftUnless, trialLeft, trialOutcome}
+use Rattle.store.specs.Trials.{termsOf, trialRefusal, leftUnless, trialLeft, trialOutcome}
 use Rattle.store.proofs.Entering.{blank-formed}
 
 pub blank-table : (n : ℕ) (k : Terms) (m : ℕ) → allWellFormed n k (replicate m blank) ≡ true

@@ -12,10 +12,10 @@ use Rattle.rules.specs.Places.{wellFormed}
 use Rattle.rules.specs.Answers.{byteOf}
 use Rattle.rules.specs.Rules.{reads}
 use Rattle.rules.specs.Tables.{rowRead}
-use Rattle.store.specs.Entries.{rowAt, callerOf, turnFor, tableBar, unlessBarred}
+use Rattle.store.specs.Entries.{rowAt, callerOf, turnFor, tableBar, unlessBarred, rowsFor}
 use Rattle.store.specs.Schedules.{decoded, claimantIn}
 use Rattle.store.specs.Runs.{openRefusal, runRefusal, outcomeOf}
-use Rattle.store.specs.Trials.{trialRefusal, rowsFor, termsOf}
+use Rattle.store.specs.Trials.{trialRefusal, termsOf}
 use Rattle.store.specs.Standings.{standingOn}
 use Rattle.store.proofs.Elements.{Row, TermsE, TurnE, CallE, AnswerE, EntryE, OutcomeE, StandingE}
 use Rattle.rules.proofs.Claimant.well_formed as #well-formed

@@ -1,10 +1,10 @@
--- What one entry does on the record that it is for, the table being judged already. Schedules.antt says the same of the table.
+-- What the functions inside the store compute, for their contracts: one entry on the record that it is for, the table being judged already. The other modules say what it comes to.
 use Prim.Native.Nat.{ℕ, _-_}
 use mathlib.Core.Bool.{Bool}
-use mathlib.Core.List.{List, [], _∷_, _++_}
-use lib.Dec.{eqb}
+use mathlib.Core.List.{[], _∷_, _++_}
+use lib.Dec.{eqb, ltb}
 use lib.ListN.{length, set}
-use Rattle.rules.specs.Tests.{pick, within, Refusal, _when_, first}
+use Rattle.rules.specs.Tests.{pick, within, _when_, first}
 use Rattle.rules.specs.Rules.{reads, valueIn, openRefusals, asked, stepTaken, left}
 use Rattle.rules.specs.Tables.{Table, recordOf, rowRead, caller}
 use Rattle.rules.specs.declared.Claimant.{Claimant}
@@ -49,3 +49,7 @@ tableBar n k broken = first (openRefusals n k ++ (3 when broken ∷ []))
 
 abbrev pub unlessBarred : (refusal : ℕ) → Call → Entry
 unlessBarred r c = pick (eqb r 0) (Made c) (Barred r)
+
+-- As many rows as a trial has claimants; none for more than 64, which is refused as none is.
+unfoldable pub rowsFor : (claimants : ℕ) → ℕ
+rowsFor n = pick (ltb 64 n) 0 n

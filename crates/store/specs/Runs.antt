@@ -4,7 +4,7 @@ use mathlib.Core.Bool.{Bool, not}
 use mathlib.Core.List.{List, [], _∷_, _++_, map}
 use lib.Dec.{eqb, ltb}
 use lib.ListN.{length, drop}
-use Rattle.rules.specs.Tests.{pick, within, Refusal, _when_, first}
+use Rattle.rules.specs.Tests.{pick, _when_, first}
 use Rattle.rules.specs.Places.{wellFormed}
 use Rattle.rules.specs.Answers.{byteOf}
 use Rattle.rules.specs.Rules.{openRefusals}

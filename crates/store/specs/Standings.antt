@@ -1,11 +1,11 @@
 -- The standing of one claimant against another: who goes first.
 use Prim.Native.Nat.{ℕ}
 use mathlib.Core.Bool.{Bool, not}
-use mathlib.Core.List.{List, [], _∷_, _++_}
+use mathlib.Core.List.{[], _∷_}
 use lib.Dec.{eqb, leb}
 use lib.ListN.{length}
 use lib.IntN.{ℤ, pos, _-ℤ_}
-use Rattle.rules.specs.Tests.{pick, _and_, within, Refusal, _when_, first}
+use Rattle.rules.specs.Tests.{pick, _and_, within, _when_, first}
 use Rattle.rules.specs.Rules.{conflict, refusals}
 use Rattle.rules.specs.Tables.{Table, recordOf, allWellFormed}
 use Rattle.rules.specs.declared.Claimant.{Claimant}

@@ -3,7 +3,7 @@ use Prim.Native.Nat.{ℕ, _*_}
 use mathlib.Core.List.{List, [], _∷_, _++_}
 use lib.Dec.{eqb, ltb}
 use lib.ListN.{length, drop}
-use Rattle.rules.specs.Tests.{pick, Refusal, _when_, first}
+use Rattle.rules.specs.Tests.{pick, _when_, first}
 use Rattle.rules.specs.Answers.{numberOf}
 use Rattle.rules.specs.Rules.{openRefusals}
 use Rattle.rules.specs.Tables.{Table, opened, recordOf}
@@ -13,10 +13,6 @@ use Rattle.rules.specs.declared.Answer.{Answer}
 use Rattle.store.specs.declared.Outcome.{Outcome}
 use Rattle.store.specs.Schedules.{claimantIn, decoded, entered}
 use Rattle.store.specs.Runs.{outcomeOf}
-
--- As many rows as claimants; none for more than 64, which is refused as none is.
-unfoldable pub rowsFor : (claimants : ℕ) → ℕ
-rowsFor n = pick (ltb 64 n) 0 n
 
 abbrev pub termsOf : (ceiling : ℕ) → Terms
 termsOf c = record { ceiling = c }

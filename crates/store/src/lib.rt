@@ -1,11 +1,9 @@
 // The table, lent as a row of claimant records: open, call, run and standing. What decides is in functions by value
 // (`entries`, `refusals`, `standings`); each function over the row reads a record, calls those, and writes the record back.
 ghost use mathlib.Core.Path.{_≡_};
-ghost use mathlib.Core.List.{_++_};
-ghost use Prim.Native.Nat.{_*_};
-ghost use lib.ListN.{length, drop};
-ghost use Rattle.rules.specs.Tables.{recordOf, allWellFormed, called};
 ghost use mathlib.Core.Bool.{true};
+ghost use lib.ListN.{length};
+ghost use Rattle.rules.specs.Tables.{recordOf, allWellFormed, called};
 ghost use Rattle.store.specs.Entries.{written, callerOf, turnIn};
 ghost use Rattle.store.specs.Runs.{lowestBroken, outcomeOf, openRefusal, opening, running};
 ghost use Rattle.store.specs.Trials.{leftUnless, trialRefusal, trialLeft, trialOutcome};
@@ -96,10 +94,10 @@ pub fn open(rows: &mut [Claimant], terms: Terms) -> Outcome
         return refusals::outcome(refusal);
     }
     let blank = Claimant::blank();
-    let mut i = 0;
-    while i < rows.len() {
-        rows[i] = blank;
-        i += 1;
+    let mut row = 0;
+    while row < rows.len() {
+        rows[row] = blank;
+        row += 1;
     }
     refusals::outcome(0)
 }

@@ -14,14 +14,19 @@
 --         255
 --     }
 --
--- 1. The struct as an element, once a crate, and each covered callee, once a crate (`next.ended`, `next.clauses`, `next.Symbol` are generated):
+-- 1. The struct as an element, and each callee with what it gives, once a crate. T and L are the generated `..proofs.Pair` and `..proofs.Pair.Laws`; f, f′ and f″ are `..proofs.next`, its `Symbol` and its `Met`:
 --
 --     abbrev pub Row : Elem
---     Row = struct-of T.the-type L.the-laws L.mir refl L.the-copy L.the-plain                 -- T: `..proofs.Pair`, L: `..proofs.Pair.Laws`
+--     Row = struct-of T.the-type L.the-laws L.mir refl L.the-copy L.the-plain
 --
---     abbrev pub next-at : {M : Type 1} (S : Site M) → Pair → Callee S
---     next-at S c = record { f = Next.name; T = next.ended; c = next.clauses (S .𝓤) (S .H) (S .A) (S .mem) (S .run); hs = val Row c ∷ []; y = ((tt, tt, tt, (c, tt), (Row .val c ∷ [], tt)), tt);
---         D = Row; r = nextOf c; to = λ r. r; contract = (refl, refl, (λ r v. refl), (λ r ws. id⊢ (S .𝓤) _)); asked = id⊢ (S .𝓤) _ }
+--     abbrev pub next : Value (Row ∷ []) Row
+--     next = record {
+--       def = record { name = f′.name; routine = f′.routine; clauses = f.clauses; met = f″.met };
+--       gives = λ a. nextOf (a .0);
+--       tells = λ 𝓤 H A mem run a. (tt, (λ _. id⊢ 𝓤 _), (λ r ws. id⊢ 𝓤 _));
+--     }
+--
+--    `tells` is the same for each function with no `requires` and one equation for its result. A function that takes a `&[S]` first is a `Look`, one that takes a `&mut [S]` first a `Change`, which also says what the list is then.
 --
 -- 2. The function: a kind for each parameter (0 is the number of its lifetime), the contract's instance F (its y: lifetimes, shares, bounds, arguments, their machine values, ghost), and what is held, a hold for each parameter:
 --
@@ -35,13 +40,13 @@
 --
 -- 3. The walk, beside the function's MIR (`rt mir NAME`): locals have their MIR numbers, and each `(refl, tt, tt)` is about the MIR and always the same. `d` stands for `nextOf (getD ys i zero)`:
 --
---       walk : … → length ys < 2 ^ 64 → Walk S F code.function (sliceVal (x .ptr) (length ys) ∷ vint w64 i ∷ []) (Γ ys)
---       walk next place fits bs =
+--       walk : Meets S (next .def) → Meets S (place-of .def) → length ys < 2 ^ 64 → Walk S F code.function (sliceVal (x .ptr) (length ys) ∷ vint w64 i ∷ []) (Γ ys)
+--       walk known known′ fits bs =
 --           ifs-below ! i (length ys) (refl, tt, tt) fits                                                -- if _2 < rows.len()
 --           (λ l. reads-mut ! Row 0 zero (refl, tt, tt, tt) refl l (λ g.                                 -- _8 = rows[_2]
---           calls-to S ! (next-at S (getD ys i zero)) next (g, tt) ((tt, tt), refl, refl) (λ g′.         -- _3 = next(_8)
+--           calls-to S ! next (getD ys i zero, tt) known (g, tt) ((tt, tt), refl, refl) (λ g′.           -- _3 = next(_8)
 --           writes ! Row 0 zero d (refl, tt, tt, tt) (tt, refl) l g′ ▸                                   -- rows[_2] = _3
---           calls-to S ! (place-of-at S d) place (g′, tt) ((tt, tt), refl, refl) (λ g″.                  -- _0 = place_of(_3)
+--           calls-to S ! place-of (d, tt) known′ (g′, tt) ((tt, tt), refl, refl) (λ g″.                  -- _0 = place_of(_3)
 --           returns ! F (num w8) (d .place) (d .place) (set ys i d, (tt, tt)) _ (tt, tt, refl, refl, refl, refl) g″ (length-set ys i d, (tt, tt)) (bump-in ys i l)))))
 --           (λ le. sets ! tt (tt, record { fits = omega arith }) ▸                                       -- _0 = 255
 --           returns ! F (num w8) 255 255 (ys, (tt, tt)) _ (tt, tt, refl, refl, refl, refl) (refl, omega arith) (refl, (tt, tt)) (bump-out ys i le))
@@ -55,10 +60,11 @@
 --     bump-spec 𝓤 H 𝓜 𝓖 𝓡 =
 --         let S = site 𝓤 H 𝓜 𝓖 𝓡 code.env in
 --         closes 𝓤 H 𝓜 𝓖 𝓡 code.env this.ended params (this.clauses 𝓤 H (𝓖 .A) (𝓜 .mem) (𝓡 .run)) #key code.function (code.unfolded 𝓤 H 𝓜 𝓡) (λ κs qs bounds a g are typed.
---         always 𝓤 (walks S (Γ S (κs .0) (qs .0) (a .0) (a .1 .0) (now (a .0))) code.function _ _ typed (walk S (κs .0) (qs .0) (a .0) (a .1 .0) (knows ..) (knows ..) (are .0 .0 .1 .0))))
+--         always 𝓤 (walks S (Γ S (κs .0) (qs .0) (a .0) (a .1 .0) (now (a .0))) code.function _ _ typed (walk S (κs .0) (qs .0) (a .0) (a .1 .0)
+--         (knows 𝓤 H 𝓜 𝓖 𝓡 code.env (next .def) code.calls-pairs·next) (knows 𝓤 H 𝓜 𝓖 𝓡 code.env (place-of .def) code.calls-pairs·place-of) (are .0 .0 .1 .0))))
 --
 -- WHICH RULE. `_i = ..`: `sets`. A branch: `ifs-below` (`i < n`), `ifs`. A loop: `loops`, then `whiles-below` or `whiles` at its head and `again` for its last statement; it carries a state of your choice, whose measure falls.
--- An element: `reads` (of `&[S]`), `reads-mut`, `writes`, and `reads-byte`, `writes-byte` of bytes. A call: by value `calls-to`; of a function that takes a `&[S]` first, `calls-copying` from a `&[S]` and `calls-seeing` from a `&mut [S]`; a `&mut` slice lent for the call, `calls-mut`; a `&mut` handed on and not used again, `calls-holding`; a part of a local array, `calls-part`.
+-- An element: `reads` (of `&[S]`), `reads-mut`, `writes`, and `reads-byte`, `writes-byte` of bytes. A call: of a `Value` `calls-to`; of a `Look` `looks-shr` or `looks-mut`, as the slice at hand is a `&[S]` or a `&mut [S]`; of a `Change` `changes`; a `&mut` handed on and not used again, `calls-holding`; a part of a local array, `calls-part`. For another signature: a rule over `called` (Calls.antt), as those are.
 -- A local is forgotten with `forgets`, a hold let go with `drops` and a plain one made anew with `makes`.
 --
 -- THE MODULES, from the ground up.

@@ -116,6 +116,10 @@ fn right_rules() -> Account {
         // The bound is met exactly; fewer would mean that the search is blind.
         account.good &= most == bound;
     }
+    if account.good {
+        account.printed += "  in every state: nobody inside beside a conflicting claimant, nobody overtaken twice by one\n";
+        account.printed += "  or by a later claim, the table well-formed, nobody stuck\n";
+    }
     account
 }
 

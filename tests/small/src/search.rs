@@ -54,7 +54,7 @@ pub struct Outcome {
     /// How many states there are: tables with their history.
     pub states: usize,
     /// The tables among them, without the history.
-    pub tables: Set,
+    pub tables: Vec<u64>,
     pub met: Met,
     /// The shortest way to each thing found, in the order of [`Finding::ALL`].
     pub found: Vec<(Finding, Vec<Turn>)>,
@@ -223,11 +223,9 @@ pub fn search(space: Space) -> Outcome {
         at += 1;
     }
     found.sort_by_key(|(finding, _)| Finding::ALL.iter().position(|known| known == finding));
-    let tables = reached
-        .keys
-        .iter()
-        .map(|&key| State::table_of(key))
-        .collect();
+    let mut tables: Vec<u64> = reached.keys.iter().copied().map(State::table_of).collect();
+    tables.sort_unstable();
+    tables.dedup();
     Outcome {
         space,
         states: reached.keys.len(),
@@ -394,7 +392,10 @@ pub fn unseen(outcome: &Outcome) -> Unseen {
             in_terms_of(shortcut, &state, n)
         })
         .collect();
-    let mut reached = Reached::fresh(space);
+    let mut reached = Reached {
+        tables_only: true,
+        ..Reached::fresh(space)
+    };
     let mut compared = Set::default();
     let (mut unseen, mut way) = (0, None);
     let mut at = 0;

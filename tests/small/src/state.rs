@@ -113,6 +113,11 @@ impl State {
     fn remember(&mut self, before: &State, n: usize, me: usize) -> Vec<Break> {
         let (was, is) = (before.rows[me], self.rows[me]);
         let mut broken = Vec::new();
+        let told = |row: &Claimant| (waits(row), on_its_way(row), row.want);
+        if told(&was) == told(&is) {
+            // Nothing that the history speaks of has changed.
+            return broken;
+        }
         if is.place == INSIDE && was.place != INSIDE {
             for p in (0..n).filter(|&p| p != me && conflict(self.rows[p].want, is.want)) {
                 if self.rows[p].place == INSIDE {

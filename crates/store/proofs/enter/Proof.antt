@@ -1,7 +1,7 @@
 -- `store::enter` meets its contract: a walk of its MIR, a straight line.
 -- Assumes nothing.
 use contract.Running.{tablesOf}
-use Rattle.walks.proofs.Kit.{refl, ℕ, _<_, _^_, List, [], _∷_, length, w32, w64, vint, Lft, Share, !, Is, RefT, now, sliceVal, slice-vals, Hold, val, mut, _▸_, sets, Site, Params, Function, by-value, mutable, Walk, walks, returns, site, closes, always, Meets, knows, calls-to, looks-mut, changes}
+use Rattle.walks.proofs.Kit.{refl, ℕ, _<_, _^_, List, [], _∷_, length, Lft, Share, !, Is, RefT, now, sliceVal, slice-vals, Hold, val, mut, _▸_, sets, Site, Params, Function, by-value, mutable, Walk, walks, returns, site, closes, always, Meets, knows, calls-to, looks-mut, changes}
 use Rattle.rules.specs.Rules.{reads}
 use Rattle.rules.specs.Tables.{recordOf, rowRead}
 use Rattle.rules.specs.declared.Claimant.{Claimant}

@@ -1,7 +1,6 @@
 -- `store::lowest_broken` meets its contract: a walk of its MIR. The loop carries i: what is left from row i on says how the answer goes on.
 -- Assumes nothing.
 use contract.Running.{tablesOf}
-use borrow.Author.Tests.{not-true}
 use Rattle.walks.proofs.Kit.{_≡_, refl, _∙_, ℕ, suc, _+_, _-_, _<_, _≤_, _^_, zero-le, le-antisymm, arith, not, List, [], _∷_, length, getD, drop, w64, vint, Lft, Share, !, Is, RefT, now, sliceVal, slice-vals, free, has, Hold, val, shr, _▸_, sets, ifs, loops, again, whiles-below, reads, Site, Params, Function, by-value, shared, Walk, walks, returns, site, closes, always, num, Meets, knows, calls-to}
 use Rattle.rules.specs.Records.{blank}
 use Rattle.rules.specs.Places.{wellFormed}

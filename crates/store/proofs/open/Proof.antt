@@ -2,7 +2,7 @@
 -- Assumes nothing.
 use contract.Running.{tablesOf}
 use lib.Dec.{ltb, ltb→lt}
-use Rattle.walks.proofs.Kit.{_≡_, refl, sym, ap, _∙_, ℕ, _+_, _-_, _<_, _≤_, _^_, zero-le, le-antisymm, arith, List, [], _∷_, length, set, replicate, length-set, w8, w64, vint, Lft, Share, !, Is, RefT, now, sliceVal, slice-vals, free, has, Hold, val, mut, _▸_, sets, ifs, loops, again, whiles-below, writes, Site, Params, Function, by-value, mutable, Walk, walks, returns, site, closes, always, Meets, knows, calls-to}
+use Rattle.walks.proofs.Kit.{_≡_, refl, sym, ap, _∙_, ℕ, _+_, _-_, _<_, _≤_, _^_, zero-le, le-antisymm, arith, List, [], _∷_, length, set, replicate, length-set, w64, vint, Lft, Share, !, Is, RefT, now, sliceVal, slice-vals, free, has, Hold, val, mut, _▸_, sets, ifs, loops, again, whiles-below, writes, Site, Params, Function, by-value, mutable, Walk, walks, returns, site, closes, always, Meets, knows, calls-to}
 use Rattle.rules.specs.Records.{blank}
 use Rattle.rules.specs.declared.Claimant.{Claimant}
 use Rattle.rules.specs.declared.Terms.{Terms}

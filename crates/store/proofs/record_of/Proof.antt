@@ -1,7 +1,7 @@
 -- `store::record_of` meets its contract: a walk of its MIR.
 -- Assumes nothing.
 use contract.Running.{tablesOf}
-use Rattle.walks.proofs.Kit.{refl, ℕ, _<_, _^_, List, [], _∷_, length, getD, w32, w64, vint, Lft, Share, !, RefT, now, sliceVal, slice-vals, Hold, val, shr, typed-of, _▸_, sets, ifs-below, reads, Site, Params, Function, by-value, shared, Walk, walks, returns, site, closes, always, num, Meets, knows, calls-to}
+use Rattle.walks.proofs.Kit.{refl, ℕ, _<_, _^_, List, [], _∷_, length, getD, w32, vint, Lft, Share, !, RefT, now, sliceVal, slice-vals, Hold, val, shr, typed-of, _▸_, sets, ifs-below, reads, Site, Params, Function, by-value, shared, Walk, walks, returns, site, closes, always, num, Meets, knows, calls-to}
 use Rattle.rules.specs.Records.{blank}
 use Rattle.rules.specs.declared.Claimant.{Claimant}
 use Rattle.store.specs.Entries.{rowAt}

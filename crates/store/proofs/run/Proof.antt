@@ -4,7 +4,7 @@ use contract.Running.{tablesOf}
 use mathlib.Core.Bool.{not}
 use mathlib.Core.List.{map}
 use lib.Dec.{T, eqb, ltb, ltb→lt}
-use Rattle.walks.proofs.Kit.{_≡_, refl, sym, _∙_, ℕ, _+_, _-_, _<_, _≤_, _^_, zero-le, le-antisymm, arith, List, [], _∷_, _++_, length, getD, set, drop, length-set, w8, w32, w64, vint, Lft, Share, !, Is, RefT, now, sliceVal, slice-vals, free, has, Hold, val, shr, mut, _▸_, sets, ifs, loops, again, whiles-below, reads, writes-byte, Site, Params, Function, by-value, shared, mutable, Walk, walks, returns, site, closes, always, num, Meets, knows, calls-to, looks-mut, changes}
+use Rattle.walks.proofs.Kit.{_≡_, refl, _∙_, ℕ, _+_, _-_, _<_, _≤_, _^_, zero-le, le-antisymm, arith, List, [], _∷_, _++_, length, getD, set, drop, length-set, w8, w32, w64, vint, Lft, Share, !, Is, RefT, now, sliceVal, slice-vals, free, has, Hold, val, shr, mut, _▸_, sets, ifs, loops, again, whiles-below, reads, writes-byte, Site, Params, Function, by-value, shared, mutable, Walk, walks, returns, site, closes, always, num, Meets, knows, calls-to, looks-mut, changes}
 use Rattle.rules.specs.Answers.{byteOf}
 use Rattle.rules.specs.Tables.{Sound}
 use Rattle.rules.specs.declared.Claimant.{Claimant}

@@ -3,7 +3,7 @@
 use contract.Running.{tablesOf}
 use mathlib.Core.Bool.{not}
 use lib.Dec.{eqb}
-use Rattle.walks.proofs.Kit.{_≡_, refl, ap, ℕ, _<_, _^_, List, [], _∷_, length, w32, w64, vint, Lft, Share, !, Is, RefT, now, sliceVal, slice-vals, Hold, val, shr, _▸_, sets, Site, Params, Function, by-value, shared, Walk, walks, returns, site, closes, always, num, Meets, knows, calls-to, looks-shr}
+use Rattle.walks.proofs.Kit.{_≡_, refl, ℕ, _<_, _^_, List, [], _∷_, length, w32, vint, Lft, Share, !, Is, RefT, now, sliceVal, slice-vals, Hold, val, shr, _▸_, sets, Site, Params, Function, by-value, shared, Walk, walks, returns, site, closes, always, num, Meets, knows, calls-to, looks-shr}
 use Rattle.rules.specs.Tables.{recordOf}
 use Rattle.rules.specs.declared.Claimant.{Claimant}
 use Rattle.rules.specs.declared.Terms.{Terms}

@@ -1,7 +1,7 @@
 -- `store::write` meets its contract: a walk of its MIR.
 -- Assumes nothing.
 use contract.Running.{tablesOf}
-use Rattle.walks.proofs.Kit.{refl, ℕ, _<_, _^_, List, [], _∷_, length, set, length-set, w32, w64, vint, Lft, Share, !, Is, RefT, now, sliceVal, slice-vals, Hold, val, mut, _▸_, sets, ifs-below, writes, Site, Params, Function, by-value, mutable, Walk, walks, returns, site, closes, always, num, unit, Meets, knows, calls-to}
+use Rattle.walks.proofs.Kit.{refl, ℕ, _<_, _^_, List, [], _∷_, length, set, length-set, w32, vint, Lft, Share, !, Is, RefT, now, sliceVal, slice-vals, Hold, val, mut, _▸_, sets, ifs-below, writes, Site, Params, Function, by-value, mutable, Walk, walks, returns, site, closes, always, num, unit, Meets, knows, calls-to}
 use Rattle.rules.specs.Records.{blank}
 use Rattle.rules.specs.declared.Claimant.{Claimant}
 use Rattle.store.specs.Entries.{rowAt, written}

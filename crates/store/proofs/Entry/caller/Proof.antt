@@ -1,3 +1,4 @@
+-- `Entry::caller` meets its contract: by the cases of an entry.
 use borrow.Author.Needs.{needs}
 use Rattle.store.proofs.Entry.caller.Statement.{statement}
 use Rattle.store.proofs.Entry.caller.Tie as tie

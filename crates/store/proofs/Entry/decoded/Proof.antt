@@ -1,3 +1,4 @@
+-- `Entry::decoded` meets its contract: kind by kind, as the definition tests them.
 use borrow.Author.Needs.{needs}
 use borrow.Author.Tests.{eq-eqb, ne-eqb}
 use Rattle.store.specs.Schedules.{decoded}

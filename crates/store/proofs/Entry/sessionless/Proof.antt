@@ -1,3 +1,4 @@
+-- `Entry::sessionless` meets its contract: by the test of the session.
 use borrow.Author.Tests.{eq-eqb, ne-eqb}
 use Rattle.store.proofs.Entry.sessionless.Statement.{statement}
 use Rattle.store.proofs.Entry.sessionless.Tie as tie

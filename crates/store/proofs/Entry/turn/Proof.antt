@@ -1,3 +1,4 @@
+-- `Entry::turn` meets its contract: by the cases of an entry.
 use borrow.Author.Needs.{needs}
 use Rattle.store.proofs.Entry.turn.Statement.{statement}
 use Rattle.store.proofs.Entry.turn.Tie as tie

@@ -1,3 +1,4 @@
+-- `caller` meets its contract: by the cases of a call.
 use borrow.Author.Needs.{needs}
 use Rattle.rules.specs.Tables.{caller}
 use Rattle.store.proofs.entries.caller.Statement.{statement}

@@ -1,3 +1,4 @@
+-- `looked_at` meets its contract: the row of the register that is read.
 use borrow.Author.Needs.{needs}
 use Rattle.store.proofs.entries.looked_at.Statement.{statement}
 use Rattle.store.proofs.entries.looked_at.Tie as tie

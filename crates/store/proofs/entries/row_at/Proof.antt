@@ -1,3 +1,4 @@
+-- `row_at` meets its contract: number 0, a number past the last row, and one of the rows.
 use borrow.Author.Needs.{needs}
 use native.Mathlib.Omega.{arith}
 use borrow.Author.Tests.{le-leb, lt-leb}

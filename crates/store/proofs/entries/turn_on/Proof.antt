@@ -1,3 +1,4 @@
+-- `turn_on` meets its contract: by the cases of a call; a step is handed the value of the register that its place reads.
 use borrow.Author.Needs.{needs}
 use Rattle.store.proofs.entries.turn_on.Statement.{statement}
 use Rattle.store.proofs.entries.turn_on.Tie as tie

@@ -1,3 +1,4 @@
+-- `judged` meets its contract: by whether a refusal is given.
 use borrow.Author.Needs.{needs}
 use native.Mathlib.Omega.{arith}
 use borrow.Author.Tests.{eq-eqb, ne-eqb}

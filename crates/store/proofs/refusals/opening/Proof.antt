@@ -1,3 +1,4 @@
+-- `opening` meets its contract: 01's list, with nothing behind 1 and 2.
 use borrow.Author.Needs.{needs}
 use Rattle.rules.specs.Tests.{first}
 use Rattle.store.proofs.refusals.opening.Statement.{statement}

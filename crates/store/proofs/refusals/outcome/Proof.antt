@@ -1,3 +1,4 @@
+-- `outcome` meets its contract: by whether a refusal is given.
 use borrow.Author.Tests.{eq-eqb, ne-eqb}
 use Rattle.store.proofs.refusals.outcome.Statement.{statement}
 use Rattle.store.proofs.refusals.outcome.Tie as tie

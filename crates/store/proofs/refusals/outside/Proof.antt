@@ -1,3 +1,4 @@
+-- `outside` meets its contract: by the two bounds of a claimant's number.
 use borrow.Author.Tests.{le-leb, lt-leb}
 use Rattle.store.proofs.refusals.outside.Statement.{statement}
 use Rattle.store.proofs.refusals.outside.Tie as tie

@@ -1,3 +1,4 @@
+-- `running` meets its contract: the definition's list, test by test.
 use borrow.Author.Needs.{needs}
 use Rattle.rules.specs.Tests.{first}
 use Rattle.store.specs.Runs.{runRefusal}

@@ -1,3 +1,4 @@
+-- `trial` meets its contract: the definition's list, test by test; five numbers to an entry fit where a fifth of the row does.
 use borrow.Author.Needs.{needs}
 use Rattle.rules.specs.Tests.{first}
 use Rattle.store.specs.Trials.{trialRefusal}

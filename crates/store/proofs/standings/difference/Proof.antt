@@ -1,3 +1,4 @@
+-- `difference` meets its contract: two 32-bit numbers are read as signed, and their difference fits.
 use borrow.Author.Needs.{needs}
 use mathlib.Core.Path.{_∙_}
 use native.Mathlib.Omega.{arith}

@@ -1,3 +1,4 @@
+-- `opposed` meets its contract: a token 0 on either side, and else the sessions.
 use borrow.Author.Needs.{needs}
 use native.Mathlib.Omega.{arith}
 use borrow.Author.Tests.{le-leb}

@@ -1,3 +1,4 @@
+-- `stands` meets its contract: by whether the claims are opposed, and then by whether the tokens are equal.
 use borrow.Author.Needs.{needs}
 use mathlib.Core.Path.{_∙_}
 use mir.Syntax.{w64}

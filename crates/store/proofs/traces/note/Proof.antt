@@ -1,3 +1,4 @@
+-- `note` meets its contract: five stores, one after the other.
 use borrow.Author.Needs.{needs}
 use mathlib.Core.Path.{_≡_}
 use Prim.Native.Nat.{suc, _+_}

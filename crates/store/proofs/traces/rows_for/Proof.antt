@@ -1,5 +1,6 @@
+-- `rows_for` meets its contract: by the test of the limit.
 use borrow.Author.Tests.{lt-ltb, le-ltb}
-use Rattle.store.specs.Trials.{rowsFor}
+use Rattle.store.specs.Entries.{rowsFor}
 use Rattle.store.proofs.traces.rows_for.Statement.{statement}
 use Rattle.store.proofs.traces.rows_for.Tie as tie
 
