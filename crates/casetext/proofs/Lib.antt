@@ -12,3 +12,4 @@ pub mod Puts
 pub mod Runs
 pub mod Lengths
 pub mod Reports
+pub mod Only

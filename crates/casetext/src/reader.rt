@@ -96,8 +96,7 @@ fn copied(draft: &[u32], count: usize, entries: &mut [u32])
 
 // Reads a case text into a lent row of entries. A refused text leaves the row as it was, so the entries are drafted apart first.
 pub fn read(text: &[u8], entries: &mut [u32]) -> Reading
-    ensures { λ r. ⌜ r ≡ told (readInto (now (entries .entry)) (now (text .entry))) ⌝ }
-    ensures { λ _. ⌜ now (entries .exit) ≡ rowAfter (readInto (now (entries .entry)) (now (text .entry))) (now (entries .entry)) ⌝ }
+    ensures { λ r. ⌜ (r ≡ told (readInto (now (entries .entry)) (now (text .entry)))) × (now (entries .exit) ≡ rowAfter (readInto (now (entries .entry)) (now (text .entry))) (now (entries .entry))) ⌝ }
 {
     if entries.len() < 2048 {
         return Reading::Refused {

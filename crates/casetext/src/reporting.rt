@@ -67,8 +67,7 @@ fn put_case(out: &mut [u8], claimants: u32, ceiling: u32, entries: &[u32]) -> us
 // Writes all that `boardcase` prints of a text into a lent row, whose later bytes stay. A row that some report would not fit is
 // left as it was, whatever the text.
 pub fn report(text: &[u8], out: &mut [u8]) -> Reported
-    ensures { λ r. ⌜ r ≡ reported (now (out .entry)) (now (text .entry)) ⌝ }
-    ensures { λ _. ⌜ now (out .exit) ≡ reportRow (now (out .entry)) (now (text .entry)) ⌝ }
+    ensures { λ r. ⌜ (r ≡ reported (now (out .entry)) (now (text .entry))) × (now (out .exit) ≡ reportRow (now (out .entry)) (now (text .entry))) ⌝ }
 {
     if out.len() < 153609 {
         return Reported::Short;

@@ -8,8 +8,7 @@ use casetext::Reported;
 // bytes is left as it was, and the answer is 0.
 #[no_mangle]
 pub extern "C" fn colliemist_report(text: &[u8], out: &mut [u8]) -> u64
-    ensures { λ r. ⌜ r ≡ counted (reported (now (out .entry)) (now (text .entry))) ⌝ }
-    ensures { λ _. ⌜ now (out .exit) ≡ reportRow (now (out .entry)) (now (text .entry)) ⌝ }
+    ensures { λ r. ⌜ (r ≡ counted (reported (now (out .entry)) (now (text .entry)))) × (now (out .exit) ≡ reportRow (now (out .entry)) (now (text .entry))) ⌝ }
 {
     match casetext::report(text, out) {
         Reported::Printed(bytes) => bytes as u64,
