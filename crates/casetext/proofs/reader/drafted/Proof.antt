@@ -1,6 +1,9 @@
 -- `casetext::reader::drafted` meets its contract: each test on the way picks its case of `reading`. Assumes nothing.
 use borrow.Author.Needs.{needs}
 use mathlib.Core.Path.{refl, sym, _∙_}
+use native.Mathlib.Omega.{arith}
+use lib.ListN.{length}
+use denote.Ref.{now}
 use borrow.Author.Tests.{lt-ltb, le-ltb}
 use Rattle.casetext.specs.Reading.{reading, fromLine2, fromLine3, told, Drafted}
 use Rattle.casetext.proofs.reader.drafted.Statement.{statement}
@@ -12,7 +15,7 @@ use Rattle.casetext.proofs.reader.do_lines.Reads as do-lines-reads
 
 returns : tie.Need-returns
 unfolding reading fromLine2 fromLine3 told Drafted
-returns c = rw (lt-ltb _ _ (c .if1 .taken)) (refl, tt)
+returns c = rw (lt-ltb 32768 (length (now (c .before .before .before .args .text))) (omega arith)) (refl, tt)
 
 slice-aggregate-line : tie.Need-slice-aggregate-line
 slice-aggregate-line c = search needs

@@ -2,6 +2,7 @@
 use borrow.Author.Needs.{needs}
 use native.Mathlib.Omega.{arith}
 use mathlib.Core.Path.{refl, sym, _∙_}
+use lib.ListN.{length}
 use borrow.Author.Tests.{lt-ltb}
 use denote.Ref.{now}
 use Rattle.casetext.specs.Reading.{reading, readInto, told, rowAfter}
@@ -15,7 +16,7 @@ use Rattle.casetext.proofs.reader.drafted.Reads as drafted-reads
 
 returns : tie.Need-returns
 unfolding readInto told rowAfter
-returns c = rw (lt-ltb _ _ (c .if1 .taken)) (refl, refl)
+returns c = rw (lt-ltb (length (now (c .before .before .before .args .entries))) 2048 (omega arith)) (refl, refl)
 
 slice-aggregate-drafted : tie.Need-slice-aggregate-drafted
 slice-aggregate-drafted c = search needs

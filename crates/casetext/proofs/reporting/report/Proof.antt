@@ -2,6 +2,7 @@
 use borrow.Author.Needs.{needs}
 use native.Mathlib.Omega.{arith}
 use mathlib.Core.Path.{refl, sym, _∙_}
+use lib.ListN.{length}
 use lib.Seq.{length-take-le}
 use borrow.Author.Tests.{lt-ltb}
 use denote.Ref.{now}
@@ -19,7 +20,7 @@ use Rattle.casetext.proofs.reporting.put_refusal.Reads as put-refusal-r
 
 returns : tie.Need-returns
 unfolding reported reportRow
-returns c = rw (lt-ltb _ _ (c .if1 .taken)) (refl, refl)
+returns c = rw (lt-ltb (length (now (c .before .before .before .args .out))) 153609 (omega arith)) (refl, refl)
 
 slice-aggregate-drafted : tie.Need-slice-aggregate-drafted
 slice-aggregate-drafted c = search needs
