@@ -17,12 +17,8 @@ use Rattle.rules.proofs.Calls.Next.{still, moves}
 use Rattle.rules.proofs.Rows.{has-number, opened-row, opened-sound, rows-formed}
 use Rattle.rules.proofs.Keeping.{sound-called, sound-after}
 use Rattle.promises.specs.Sequences.{atOdds}
-use Rattle.promises.specs.Fairness.{StaysSound, Exclusion}
+use Rattle.promises.specs.Fairness.{Exclusion}
 use Rattle.promises.proofs.Passing.{Passing, not-begun, forward, backward}
-
-pub stays-sound : StaysSound
-unfolding StaysSound
-stays-sound n k o calls = sound-after calls (opened-sound n k o)
 
 -- The invariant, of every two claimants.
 abbrev Fair : ℕ → (ℕ → Claimant) → Type 0
@@ -63,10 +59,10 @@ not-both {n} {at} f i j a b c d p q x =
     omega (arith, l .number (r .token), r .number (l .token)))
 
 pub exclusion : Exclusion
-unfolding Exclusion StaysSound
+unfolding Exclusion
 exclusion n k o calls i j p q =
     let t = after k calls (opened n) in
-    let s = stays-sound n k o calls in
+    let s = sound-after calls (opened-sound n k o) in
     let a = has-number t i (omega arith) in
     let b = has-number t j (omega arith) in
     let l = s .length-is in

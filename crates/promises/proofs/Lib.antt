@@ -1,3 +1,4 @@
+pub mod Soundness
 pub mod Awareness
 pub mod Passing
 pub mod Exclusion

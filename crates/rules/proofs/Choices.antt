@@ -89,7 +89,7 @@ conflict-true s t e =
       differ = eqb-false s t (not-true (eqb s t) (g .1));
     }
 
-pub conflict-holds : {s t : ℕ} → Conflict s t → conflict s t ≡ true
+conflict-holds : {s t : ℕ} → Conflict s t → conflict s t ≡ true
 unfolding conflict
 conflict-holds {s} {t} c = rw (le-leb 1 s (c .some), le-leb 1 t (c .others), ne-eqb s t (c .differ))
 

@@ -62,7 +62,7 @@ unfolding recordOf opened
 opened-row n zero = refl
 opened-row n (suc i) = blank-row n i
 
-pub opened-length : (n : ℕ) → length (opened n) ≡ n
+opened-length : (n : ℕ) → length (opened n) ≡ n
 unfolding opened
 opened-length n = length-replicate n blank
 
