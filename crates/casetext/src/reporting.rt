@@ -50,17 +50,38 @@ fn put_refusal(out: &mut [u8], number: u8, line: usize) -> usize
     put_line(out, next, b" line=", line as u32)
 }
 
-// What a case with these two numbers and entries prints.
+// What a case with these two numbers and entries prints. `left` is room for what its entries leave.
+fn put_trial(
+    out: &mut [u8],
+    claimants: u32,
+    ceiling: u32,
+    entries: &[u32],
+    left: &mut [u32],
+) -> usize
+    requires { ⌜ length (now entries) ≤ 2048 ⌝ }
+    requires { ⌜ 5 * length (now entries) ≤ length (now left) ⌝ }
+    requires { ⌜ Room (now out) 0 (saidText (accepted claimants ceiling (now entries))) ⌝ }
+    ensures { λ r. ⌜ Wrote (now (out .entry)) 0 (saidText (accepted claimants ceiling (now (entries .entry)))) r (now (out .exit)) ⌝ }
+{
+    let outcome = store::trial(claimants, ceiling, entries, left);
+    match outcome {
+        Outcome::Done => put_run(out, entries, left),
+        Outcome::Refused(number) => put_refusal(out, number, number as usize),
+    }
+}
+
+// The same, with room for what it leaves: a short case isn't made to wait for room that only the longest needs.
 fn put_case(out: &mut [u8], claimants: u32, ceiling: u32, entries: &[u32]) -> usize
     requires { ⌜ length (now entries) ≤ 2048 ⌝ }
     requires { ⌜ Room (now out) 0 (saidText (accepted claimants ceiling (now entries))) ⌝ }
     ensures { λ r. ⌜ Wrote (now (out .entry)) 0 (saidText (accepted claimants ceiling (now (entries .entry)))) r (now (out .exit)) ⌝ }
 {
-    let mut left = [0u32; 10240];
-    let outcome = store::trial(claimants, ceiling, entries, &mut left);
-    match outcome {
-        Outcome::Done => put_run(out, entries, &left),
-        Outcome::Refused(number) => put_refusal(out, number, number as usize),
+    if entries.len() <= 128 {
+        let mut left = [0u32; 640];
+        put_trial(out, claimants, ceiling, entries, &mut left)
+    } else {
+        let mut left = [0u32; 10240];
+        put_trial(out, claimants, ceiling, entries, &mut left)
     }
 }
 
