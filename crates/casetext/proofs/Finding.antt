@@ -3,7 +3,6 @@
 use mathlib.Core.Path.{_≡_}
 use native.Mathlib.Omega.{arith}
 use Prim.Native.Nat.{ℕ}
-use Rattle.casetext.specs.declared.Found.{Found}
 use Rattle.casetext.specs.declared.Found.the-variants.{Is, Broken}
 
 pub not-found {ℓ} : {A : Type ℓ} {value next : ℕ} → Broken ≡ Is value next → A

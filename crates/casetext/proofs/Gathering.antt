@@ -2,9 +2,8 @@
 -- Assumes nothing.
 use Prim.Native.Nat.{ℕ, zero, suc, _+_, _-_, _≤_, _<_}
 use native.Mathlib.Numerals.{add-one}
-use native.Mathlib.Nat.{sub-self}
 use native.Mathlib.Omega.{arith}
-use mathlib.Core.Path.{_≡_, refl, sym, ap, _∙_}
+use mathlib.Core.Path.{_≡_, refl, sym, ap}
 use mathlib.Core.List.{List, [], _∷_, _++_, append-nil, append-assoc}
 use lib.ListN.{length, take, drop, set, getD, length-set, length-take}
 use lib.Seq.{length-take-le, take-suc-set, drop-cons, set-at, append-snoc, take-suc}
@@ -13,7 +12,6 @@ use Rattle.casetext.specs.Lines.{doLineAt}
 use Rattle.casetext.specs.Reading.{Said, before, onward, doLines, reading, readInto, told, rowAfter, Drafted}
 use Rattle.casetext.specs.Reading.Said.{accepted, refused}
 use Rattle.casetext.specs.declared.Found.the-variants.{Is, Broken}
-use Rattle.casetext.specs.declared.Reading.{Reading}
 use Rattle.casetext.specs.declared.Reading.the-variants.{Case, Refused}
 
 -- One turn of the do lines, by what is found.

@@ -1,18 +1,17 @@
 -- How long a report can be.
 -- Assumes nothing.
-use Prim.Native.Nat.{ℕ, zero, suc, _+_, _-_, _*_, _/_, _%_, _^_, _≤_, _<_}
+use Prim.Native.Nat.{ℕ, zero, suc, _+_, _*_, _≤_}
 use native.Mathlib.Omega.{arith}
-use mathlib.Core.Path.{_≡_, refl, sym, ap, _∙_}
-use mathlib.Core.Bool.{Bool, true, false}
-use mathlib.Core.List.{List, [], _∷_, _++_, map}
+use mathlib.Core.Path.{_≡_, refl, ap, _∙_}
+use mathlib.Core.Bool.{true}
+use mathlib.Core.List.{List, [], _∷_}
 use lib.Dec.{eqb, leb}
-use lib.ListN.{length, getD, drop, length-append, length-map}
+use lib.ListN.{length, length-append, length-map}
 use borrow.Author.Tests.{eqb-false, leb-true, leb-false, not-false}
-use Rattle.rules.specs.Tests.{pick, first, within}
+use Rattle.rules.specs.Tests.{first, within}
 use Rattle.rules.specs.Answers.{numberOf}
 use Rattle.rules.specs.Rules.{openRefusals}
-use Rattle.rules.specs.Tables.{Table, opened, recordOf, called, Opens, Sound}
-use Rattle.rules.specs.declared.Claimant.{Claimant}
+use Rattle.rules.specs.Tables.{Table, opened, recordOf, Opens, Sound}
 use Rattle.rules.specs.declared.Terms.{Terms}
 use Rattle.rules.specs.declared.Call.{Call}
 use Rattle.rules.proofs.Choices.{decide, none-given, within-true, first-small}
@@ -24,12 +23,11 @@ use Rattle.store.specs.Trials.{termsOf, traced}
 use Rattle.store.specs.declared.Entry.{Entry}
 use Rattle.store.specs.declared.Entry.the-variants.{Made, Barred}
 use Rattle.casetext.specs.Words.{ascii}
-use Rattle.casetext.specs.Numerals.{numeral}
 use Rattle.casetext.specs.Layout.{entryOf, lineText}
 use Rattle.casetext.specs.Reading.{Said, reading}
 use Rattle.casetext.specs.Reading.Said.{accepted, refused}
 use Rattle.casetext.specs.Report.{entryText, entriesText, refusalText, runText, openedText, saidText, printed}
-use Rattle.casetext.specs.Promises.{IsCase, FirstBad, TooMany, Cause, ReportFits, PrintsSomething}
+use Rattle.casetext.specs.Promises.{IsCase, Cause, ReportFits, PrintsSomething}
 use Rattle.casetext.specs.Promises.FirstBad.{line-1, line-2, line-3-on}
 use Rattle.casetext.specs.Promises.Cause.{long, broken, many}
 use Rattle.casetext.proofs.Puts.{numeral-short}

@@ -4,20 +4,19 @@ use Prim.Native.Nat.{ℕ, zero, suc, _+_, _-_, _*_, _/_, _%_, _≤_, _<_}
 use native.Mathlib.Numerals.{add-one}
 use native.Mathlib.Omega.{arith}
 use mathlib.Core.Path.{_≡_, refl, sym, ap, _∙_}
-use mathlib.Core.Bool.{Bool, true, false}
+use mathlib.Core.Bool.{true, false}
 use mathlib.Core.List.{List, [], _∷_, _++_, append-assoc, append-nil}
 use lib.Dec.{eqb, leb, ltb}
 use lib.ListN.{length, getD, drop, length-append}
-use lib.Seq.{drop-append-seam, drop-cons}
-use borrow.Author.Tests.{lt-ltb, le-ltb, le-leb, ltb-true, ltb-false, leb-true, eq-eqb, ne-eqb, eqb-true, eqb-false}
-use Rattle.rules.specs.Tests.{pick}
+use lib.Seq.{drop-cons}
+use borrow.Author.Tests.{lt-ltb, le-ltb, le-leb, ltb-true, ltb-false, ne-eqb, eqb-true, eqb-false}
 use Rattle.casetext.specs.Numerals.{numeral, numeralWithin}
 use Rattle.casetext.specs.Pieces.{isDigit, digitsFrom, numberAt}
-use Rattle.casetext.specs.declared.Found.the-variants.{Is, Broken}
+use Rattle.casetext.specs.declared.Found.the-variants.{Is}
 use Rattle.rules.proofs.Choices.{decide, true-not-false}
 use Rattle.casetext.proofs.Finding.{not-found}
 use Rattle.casetext.proofs.Words.{byte-inside}
-use Rattle.casetext.proofs.Digits.{is-digit, digits-most}
+use Rattle.casetext.proofs.Digits.{is-digit}
 use Rattle.casetext.proofs.Stands.{Stands, stands-as, first-byte, byte-stands}
 
 -- A numeral is its last digit after the numeral of what is before it, however much room there is.

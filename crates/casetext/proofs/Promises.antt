@@ -1,9 +1,8 @@
 -- The promises of the reader, kept.
 -- Assumes nothing.
-use Prim.Native.Nat.{ℕ, zero, suc, _+_, _-_, _*_, _≤_, _<_}
+use Prim.Native.Nat.{ℕ, zero, suc, _+_, _-_, _≤_, _<_}
 use native.Mathlib.Omega.{arith}
 use mathlib.Core.Path.{_≡_, refl, sym, ap, _∙_}
-use mathlib.Core.Bool.{Bool, true, false}
 use mathlib.Core.List.{List, [], _∷_, _++_, append-assoc, append-nil, map}
 use lib.Dec.{leb, ltb}
 use lib.ListN.{length, getD, drop, length-drop, drop-of-length-le}
@@ -13,7 +12,7 @@ use Rattle.rules.specs.declared.Call.the-variants.{Ask, Step, Leave}
 use Rattle.store.specs.Schedules.{kindIn, claimantIn, sessionIn, decoded}
 use Rattle.store.specs.declared.Entry.the-variants.{Made}
 use Rattle.casetext.specs.Words.{ascii}
-use Rattle.casetext.specs.Layout.{Turn, InRange, AllInRange, entry, entryOf, lineText, doText, doTexts, headText, caseText, Writes}
+use Rattle.casetext.specs.Layout.{Turn, InRange, AllInRange, entry, entryOf, lineText, doText, doTexts, headText}
 use Rattle.casetext.specs.Layout.Turn.{ask, step, leave}
 use Rattle.casetext.specs.Lines.{lineAt, doLineAt}
 use Rattle.casetext.specs.Reading.{Said, before, doLines, fromLine2, fromLine3, reading}

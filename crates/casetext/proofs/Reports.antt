@@ -1,27 +1,24 @@
 -- What a trial's answer, and what the reader's answer, tell of the text to be printed.
 -- Assumes nothing.
-use Prim.Native.Nat.{ℕ, zero, suc, _+_, _*_, _≤_}
+use Prim.Native.Nat.{ℕ, _+_, _*_, _≤_}
 use native.Mathlib.Nat.{zero-add}
 use native.Mathlib.Omega.{arith}
-use mathlib.Core.Path.{_≡_, refl, sym, ap, _∙_}
-use mathlib.Core.Bool.{Bool, true, false}
+use mathlib.Core.Path.{_≡_, refl, ap, _∙_}
 use mathlib.Core.List.{List, [], _∷_, _++_}
 use lib.Dec.{eqb, ltb}
 use lib.ListN.{length, take, drop}
 use borrow.Author.Tests.{le-ltb, ltb-false}
-use Rattle.rules.specs.Tests.{pick, first}
+use Rattle.rules.specs.Tests.{first}
 use Rattle.rules.specs.Rules.{openRefusals}
 use Rattle.rules.specs.Tables.{Table, opened}
 use Rattle.rules.specs.declared.Terms.{Terms}
 use Rattle.rules.proofs.Choices.{decide, first-small}
 use Rattle.store.specs.Schedules.{decoded, entered}
-use Rattle.store.specs.Runs.{outcomeOf}
 use Rattle.store.specs.Trials.{termsOf, traced, trialRefusal, trialLeft, trialOutcome}
-use Rattle.store.specs.declared.Outcome.{Outcome}
 use Rattle.store.specs.declared.Outcome.the-variants.{Done, Refused as Opening-refused}
 use Rattle.casetext.specs.Reading.{Said, reading, told, Drafted}
 use Rattle.casetext.specs.Reading.Said.{accepted, refused}
-use Rattle.casetext.specs.Writing.{put, Room, Wrote}
+use Rattle.casetext.specs.Writing.{Room, Wrote}
 use Rattle.casetext.specs.Report.{entryText, entriesText, refusalText, runText, openedText, saidText, printed, reported, reportRow}
 use Rattle.casetext.specs.declared.Reading.the-variants.{Case, Refused}
 use Rattle.casetext.specs.declared.Reported.the-variants.{Printed, Short}

@@ -1,17 +1,14 @@
 -- That a text stands in a longer one, from a place up to another.
 -- Assumes nothing.
-use Prim.Native.Nat.{ℕ, zero, suc, _+_, _≤_, _<_}
-use native.Mathlib.Nat.{add-zero, add-assoc}
+use Prim.Native.Nat.{ℕ, suc, _+_, _≤_}
+use native.Mathlib.Nat.{add-zero}
 use native.Mathlib.Omega.{arith}
 use mathlib.Core.Path.{_≡_, refl, sym, ap, _∙_}
-use mathlib.Core.Bool.{true, false}
+use mathlib.Core.Bool.{true}
 use mathlib.Core.List.{List, [], _∷_, _++_, append-assoc}
-use lib.Dec.{eqb}
-use lib.ListN.{length, getD, drop, length-append, length-drop}
+use lib.ListN.{length, getD, drop, length-append}
 use lib.Seq.{drop-drop, drop-append-seam, getD-drop, drop-cons}
-use borrow.Author.Tests.{eqb-true, eq-eqb}
 use Rattle.casetext.specs.Pieces.{begins}
-use Rattle.casetext.specs.Words.{ascii}
 use Rattle.casetext.proofs.Words.{begins-true, begins-append, byte-inside}
 
 pub record Stands (s : List ℕ) (at next : ℕ) (w : List ℕ) : Type 0 where

@@ -4,13 +4,11 @@ use Prim.Native.Nat.{ℕ, zero, suc, _+_, _-_, _≤_, _<_}
 use native.Mathlib.Nat.{sub-zero, add-zero}
 use native.Mathlib.Omega.{arith}
 use mathlib.Core.Path.{_≡_, refl, sym, ap, _∙_}
-use mathlib.Core.Bool.{Bool, true, false}
-use mathlib.Core.List.{List, [], _∷_, _++_, append-assoc, append-nil, map}
+use mathlib.Core.List.{List, [], _∷_, _++_, append-assoc, map}
 use lib.Dec.{leb}
 use lib.ListN.{length, drop, length-append, length-drop, drop-of-length-le}
 use borrow.Author.Tests.{leb-true, leb-false}
-use Rattle.casetext.specs.Words.{ascii}
-use Rattle.casetext.specs.Layout.{Turn, InRange, AllInRange, entryOf, turnText, doText, doTexts}
+use Rattle.casetext.specs.Layout.{Turn, InRange, AllInRange, entryOf, doText, doTexts}
 use Rattle.casetext.specs.Lines.{doLineAt}
 use Rattle.casetext.specs.Reading.{Said, before, doLines}
 use Rattle.casetext.specs.Reading.Said.{accepted, refused}

@@ -5,11 +5,6 @@ use lib.Seq.{length-take-le}
 use Rattle.casetext.proofs.Reports.{report-within}
 use Rattle.boardcase.proofs.main.Statement.{statement}
 use Rattle.boardcase.proofs.main.Tie as tie
-use Rattle.boardcase.proofs.main.Reads as reads
-use Rattle.boardcase.proofs.main.Lts as lts
-use Rattle.casetext.proofs.report.Reads as report-reads
-use Rattle.io.proofs.read_full.Reads as read-full-reads
-use Rattle.io.proofs.write_all.Reads as write-all-reads
 
 slice-aggregate-read-full : tie.Need-slice-aggregate-read-full
 slice-aggregate-read-full c = search needs

@@ -4,9 +4,6 @@ use mathlib.Core.Path.{sym, ap, _∙_}
 use Rattle.colliemist.specs.Count.{counted}
 use Rattle.colliemist.proofs.colliemist_report.Statement.{statement}
 use Rattle.colliemist.proofs.colliemist_report.Tie as tie
-use Rattle.colliemist.proofs.colliemist_report.Reads as reads
-use Rattle.colliemist.proofs.colliemist_report.Lts as lts
-use Rattle.casetext.proofs.report.Reads as report-reads
 
 report-requires : tie.Need-report-requires
 report-requires c κs = search needs

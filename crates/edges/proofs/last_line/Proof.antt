@@ -3,8 +3,6 @@ use Prim.Native.Nat.{_≤_}
 use native.Mathlib.Omega.{arith}
 use Rattle.edges.proofs.last_line.Statement.{statement}
 use Rattle.edges.proofs.last_line.Tie as tie
-use Rattle.edges.proofs.last_line.Reads as reads
-use Rattle.edges.proofs.last_line.Lts as lts
 
 abbrev Inv-loop : tie.InvT-loop
 Inv-loop row bytes at₀ at = at ≤ bytes

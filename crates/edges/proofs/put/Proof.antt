@@ -6,8 +6,6 @@ use lib.ListN.{length, length-set}
 use lib.Seq.{length-take-le}
 use Rattle.edges.proofs.put.Statement.{statement}
 use Rattle.edges.proofs.put.Tie as tie
-use Rattle.edges.proofs.put.Reads as reads
-use Rattle.edges.proofs.put.Lts as lts
 
 abbrev Inv-loop : tie.InvT-loop
 Inv-loop text₀ from line at₀ i₀ text at i = (at ≤ length text) × (length text ≡ length text₀)

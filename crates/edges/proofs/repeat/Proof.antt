@@ -6,9 +6,6 @@ use lib.ListN.{length}
 use lib.Seq.{length-take-le}
 use Rattle.edges.proofs.repeat.Statement.{statement}
 use Rattle.edges.proofs.repeat.Tie as tie
-use Rattle.edges.proofs.repeat.Reads as reads
-use Rattle.edges.proofs.repeat.Lts as lts
-use Rattle.edges.proofs.put.Reads as put-reads
 
 abbrev Inv-loop : tie.InvT-loop
 Inv-loop text₀ from line times at₀ k₀ text at k = (at ≤ length text) × (length text ≡ length text₀)

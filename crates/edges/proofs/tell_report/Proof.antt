@@ -4,12 +4,6 @@ use mathlib.Core.Path.{sym, _∙_}
 use Rattle.casetext.proofs.Reports.{report-within}
 use Rattle.edges.proofs.tell_report.Statement.{statement}
 use Rattle.edges.proofs.tell_report.Tie as tie
-use Rattle.edges.proofs.tell_report.Reads as reads
-use Rattle.edges.proofs.tell_report.Lts as lts
-use Rattle.casetext.proofs.report.Reads as report-reads
-use Rattle.edges.proofs.last_line.Reads as last-line-reads
-use Rattle.edges.proofs.number.Reads as number-reads
-use Rattle.edges.proofs.say.Reads as say-reads
 
 slice-aggregate-report : tie.Need-slice-aggregate-report
 slice-aggregate-report c = search needs

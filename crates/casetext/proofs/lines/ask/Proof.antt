@@ -1,16 +1,11 @@
 -- `casetext::lines::ask` meets its contract. Assumes nothing.
 use borrow.Author.Needs.{needs}
-use native.Mathlib.Omega.{arith}
-use mathlib.Core.Path.{sym, ap, _∙_}
+use mathlib.Core.Path.{sym, _∙_}
 use denote.Ref.{now}
 use Rattle.casetext.specs.Lines.{askAt, thenSession}
 use Rattle.casetext.proofs.Digits.{number-most}
 use Rattle.casetext.proofs.lines.ask.Statement.{statement}
 use Rattle.casetext.proofs.lines.ask.Tie as tie
-use Rattle.casetext.proofs.lines.ask.Reads as reads
-use Rattle.casetext.proofs.lines.ask.Lts as lts
-use Rattle.casetext.proofs.lines.asked_by.Reads as asked-by-reads
-use Rattle.casetext.proofs.pieces.number.Reads as number-reads
 
 number-requires : tie.Need-number-requires
 number-requires c κs = search needs

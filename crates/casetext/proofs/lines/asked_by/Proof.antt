@@ -1,16 +1,13 @@
 -- `casetext::lines::asked_by` meets its contract: the session found is at most 65,535, so the entry fits. Assumes nothing.
 use borrow.Author.Needs.{needs}
 use native.Mathlib.Omega.{arith}
-use mathlib.Core.Path.{sym, ap, _∙_}
+use mathlib.Core.Path.{sym, _∙_}
 use denote.Ref.{now}
 use Rattle.casetext.specs.Lines.{withSession, askedBy}
 use Rattle.casetext.specs.Words.{ascii}
 use Rattle.casetext.proofs.Digits.{field-most}
 use Rattle.casetext.proofs.lines.asked_by.Statement.{statement}
 use Rattle.casetext.proofs.lines.asked_by.Tie as tie
-use Rattle.casetext.proofs.lines.asked_by.Reads as reads
-use Rattle.casetext.proofs.lines.asked_by.Lts as lts
-use Rattle.casetext.proofs.pieces.field.Reads as field-reads
 
 slice-aggregate-field : tie.Need-slice-aggregate-field
 slice-aggregate-field c = search needs

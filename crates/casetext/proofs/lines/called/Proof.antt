@@ -1,16 +1,13 @@
 -- `casetext::lines::called` meets its contract: the claimant found is at most 255, so the entry fits. Assumes nothing.
 use borrow.Author.Needs.{needs}
 use native.Mathlib.Omega.{arith}
-use mathlib.Core.Path.{sym, ap, _∙_}
+use mathlib.Core.Path.{sym, _∙_}
 use native.Mathlib.Nat.{add-zero}
 use denote.Ref.{now}
 use Rattle.casetext.specs.Lines.{ofKind, calledAt}
 use Rattle.casetext.proofs.Digits.{number-most}
 use Rattle.casetext.proofs.lines.called.Statement.{statement}
 use Rattle.casetext.proofs.lines.called.Tie as tie
-use Rattle.casetext.proofs.lines.called.Reads as reads
-use Rattle.casetext.proofs.lines.called.Lts as lts
-use Rattle.casetext.proofs.pieces.number.Reads as number-reads
 
 number-requires : tie.Need-number-requires
 number-requires c κs = search needs

@@ -8,11 +8,6 @@ use Rattle.casetext.specs.Words.{ascii}
 use Rattle.casetext.proofs.Words.{begins-room}
 use Rattle.casetext.proofs.lines.do_line.Statement.{statement}
 use Rattle.casetext.proofs.lines.do_line.Tie as tie
-use Rattle.casetext.proofs.lines.do_line.Reads as reads
-use Rattle.casetext.proofs.lines.do_line.Lts as lts
-use Rattle.casetext.proofs.lines.line_end.Reads as line-end-reads
-use Rattle.casetext.proofs.lines.turn.Reads as turn-reads
-use Rattle.casetext.proofs.pieces.word.Reads as word-reads
 
 slice-aggregate-word : tie.Need-slice-aggregate-word
 slice-aggregate-word c = search needs

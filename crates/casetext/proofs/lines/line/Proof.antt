@@ -1,15 +1,10 @@
 -- `casetext::lines::line` meets its contract. Assumes nothing.
 use borrow.Author.Needs.{needs}
-use native.Mathlib.Omega.{arith}
-use mathlib.Core.Path.{sym, ap, _∙_}
+use mathlib.Core.Path.{ap, _∙_}
 use denote.Ref.{now}
 use Rattle.casetext.specs.Lines.{ended, lineAt}
 use Rattle.casetext.proofs.lines.line.Statement.{statement}
 use Rattle.casetext.proofs.lines.line.Tie as tie
-use Rattle.casetext.proofs.lines.line.Reads as reads
-use Rattle.casetext.proofs.lines.line.Lts as lts
-use Rattle.casetext.proofs.lines.line_end.Reads as line-end-reads
-use Rattle.casetext.proofs.pieces.field.Reads as field-reads
 
 field-requires : tie.Need-field-requires
 field-requires c κs = search needs

@@ -1,7 +1,6 @@
 -- `casetext::lines::line_end` meets its contract. Assumes nothing.
 use borrow.Author.Needs.{needs}
 use native.Mathlib.Omega.{arith}
-use mathlib.Core.Path.{sym, ap, _∙_}
 use denote.Ref.{now}
 use borrow.Author.Tests.{eq-eqb, ne-eqb}
 use lib.ListN.{getD}
@@ -9,9 +8,6 @@ use Rattle.casetext.specs.Lines.{ended}
 use Rattle.casetext.proofs.Words.{byte-inside}
 use Rattle.casetext.proofs.lines.line_end.Statement.{statement}
 use Rattle.casetext.proofs.lines.line_end.Tie as tie
-use Rattle.casetext.proofs.lines.line_end.Reads as reads
-use Rattle.casetext.proofs.lines.line_end.Lts as lts
-use Rattle.casetext.proofs.pieces.byte.Reads as byte-reads
 
 enum-told : tie.Need-enum-told
 enum-told c = search needs

@@ -1,18 +1,13 @@
 -- `casetext::lines::turn` meets its contract: each word's test picks its case. Assumes nothing.
 use borrow.Author.Needs.{needs}
 use native.Mathlib.Omega.{arith}
-use mathlib.Core.Path.{sym, ap, _∙_}
+use mathlib.Core.Path.{sym, _∙_}
 use denote.Ref.{now}
 use Rattle.casetext.specs.Lines.{turnAt}
 use Rattle.casetext.specs.Words.{ascii}
 use Rattle.casetext.proofs.Words.{begins-room}
 use Rattle.casetext.proofs.lines.turn.Statement.{statement}
 use Rattle.casetext.proofs.lines.turn.Tie as tie
-use Rattle.casetext.proofs.lines.turn.Reads as reads
-use Rattle.casetext.proofs.lines.turn.Lts as lts
-use Rattle.casetext.proofs.lines.ask.Reads as ask-reads
-use Rattle.casetext.proofs.lines.called.Reads as called-reads
-use Rattle.casetext.proofs.pieces.word.Reads as word-reads
 
 slice-aggregate-word : tie.Need-slice-aggregate-word
 slice-aggregate-word c = search needs

@@ -9,9 +9,6 @@ use Rattle.casetext.specs.Pieces.{digitsFrom}
 use Rattle.casetext.proofs.Digits.{is-digit, below-digits, above-digits, digits-end, digits-stop, digits-past, digits-more}
 use Rattle.casetext.proofs.pieces.digits.Statement.{statement}
 use Rattle.casetext.proofs.pieces.digits.Tie as tie
-use Rattle.casetext.proofs.pieces.digits.Reads as reads
-use Rattle.casetext.proofs.pieces.digits.Lts as lts
-use Rattle.casetext.proofs.pieces.with_digit.Reads as with-digit-reads
 
 abbrev Inv-loop : tie.InvT-loop
 Inv-loop text at most value₀ next₀ value next =

@@ -7,10 +7,6 @@ use Rattle.casetext.specs.Pieces.{fieldAt}
 use Rattle.casetext.proofs.Words.{begins-room}
 use Rattle.casetext.proofs.pieces.field.Statement.{statement}
 use Rattle.casetext.proofs.pieces.field.Tie as tie
-use Rattle.casetext.proofs.pieces.field.Reads as reads
-use Rattle.casetext.proofs.pieces.field.Lts as lts
-use Rattle.casetext.proofs.pieces.number.Reads as number-reads
-use Rattle.casetext.proofs.pieces.word.Reads as word-reads
 
 word-requires : tie.Need-word-requires
 word-requires c κs = search needs

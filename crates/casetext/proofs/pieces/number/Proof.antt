@@ -9,10 +9,6 @@ use Rattle.casetext.proofs.Words.{byte-inside}
 use Rattle.casetext.proofs.Digits.{is-digit, below-digits, above-digits}
 use Rattle.casetext.proofs.pieces.number.Statement.{statement}
 use Rattle.casetext.proofs.pieces.number.Tie as tie
-use Rattle.casetext.proofs.pieces.number.Reads as reads
-use Rattle.casetext.proofs.pieces.number.Lts as lts
-use Rattle.casetext.proofs.pieces.byte.Reads as byte-reads
-use Rattle.casetext.proofs.pieces.digits.Reads as digits-reads
 
 byte-requires : tie.Need-byte-requires
 byte-requires c κs = search needs

@@ -9,8 +9,6 @@ use Rattle.casetext.specs.Pieces.{begins}
 use Rattle.casetext.proofs.Words.{begins-end, begins-differ, begins-same}
 use Rattle.casetext.proofs.pieces.word.Statement.{statement}
 use Rattle.casetext.proofs.pieces.word.Tie as tie
-use Rattle.casetext.proofs.pieces.word.Reads as reads
-use Rattle.casetext.proofs.pieces.word.Lts as lts
 
 abbrev Inv-loop : tie.InvT-loop
 Inv-loop text at name next₀ i₀ next i =

@@ -1,16 +1,13 @@
 -- `casetext::reader::copied` meets its contract. The invariant: the first i places hold the draft's. Assumes nothing.
-use borrow.Author.Needs.{needs}
 use Prim.Native.Nat.{_-_, _≤_}
 use native.Mathlib.Omega.{arith}
-use mathlib.Core.Path.{_≡_, refl, sym, _∙_}
+use mathlib.Core.Path.{_≡_, refl, _∙_}
 use mathlib.Core.List.{_++_}
 use lib.ListN.{length, take, drop, length-set}
 use denote.Ref.{now}
 use Rattle.casetext.proofs.Gathering.{copied-more}
 use Rattle.casetext.proofs.reader.copied.Statement.{statement}
 use Rattle.casetext.proofs.reader.copied.Tie as tie
-use Rattle.casetext.proofs.reader.copied.Reads as reads
-use Rattle.casetext.proofs.reader.copied.Lts as lts
 
 abbrev Inv-loop : tie.InvT-loop
 Inv-loop draft count entries₀ i₀ entries i =

@@ -7,9 +7,6 @@ use lib.ListN.{length, length-set}
 use Rattle.casetext.proofs.Gathering.{Gathering, gathering-start, gathering-broken, gathering-full, gathering-more, gathering-end}
 use Rattle.casetext.proofs.reader.do_lines.Statement.{statement}
 use Rattle.casetext.proofs.reader.do_lines.Tie as tie
-use Rattle.casetext.proofs.reader.do_lines.Reads as reads
-use Rattle.casetext.proofs.reader.do_lines.Lts as lts
-use Rattle.casetext.proofs.lines.do_line.Reads as do-line-reads
 
 abbrev Inv-loop : tie.InvT-loop
 Inv-loop text from claimants ceiling draft₀ at₀ count₀ draft at count =

@@ -8,10 +8,6 @@ use borrow.Author.Tests.{lt-ltb, le-ltb}
 use Rattle.casetext.specs.Reading.{reading, fromLine2, fromLine3, told, Drafted}
 use Rattle.casetext.proofs.reader.drafted.Statement.{statement}
 use Rattle.casetext.proofs.reader.drafted.Tie as tie
-use Rattle.casetext.proofs.reader.drafted.Reads as reads
-use Rattle.casetext.proofs.reader.drafted.Lts as lts
-use Rattle.casetext.proofs.lines.line.Reads as line-reads
-use Rattle.casetext.proofs.reader.do_lines.Reads as do-lines-reads
 
 returns : tie.Need-returns
 unfolding reading fromLine2 fromLine3 told Drafted

@@ -9,10 +9,6 @@ use Rattle.casetext.specs.Reading.{reading, readInto, told, rowAfter}
 use Rattle.casetext.proofs.Gathering.{told-count, told-row, told-refused, room-for-all}
 use Rattle.casetext.proofs.reader.read.Statement.{statement}
 use Rattle.casetext.proofs.reader.read.Tie as tie
-use Rattle.casetext.proofs.reader.read.Reads as reads
-use Rattle.casetext.proofs.reader.read.Lts as lts
-use Rattle.casetext.proofs.reader.copied.Reads as copied-reads
-use Rattle.casetext.proofs.reader.drafted.Reads as drafted-reads
 
 returns : tie.Need-returns
 unfolding readInto told rowAfter

@@ -6,10 +6,6 @@ use Rattle.casetext.proofs.Puts.{room-1, room-2, room-3, room-4, wrote-
 use Rattle.casetext.proofs.Runs.{who, session, token, answer}
 use Rattle.casetext.proofs.reporting.put_entry.Statement.{statement}
 use Rattle.casetext.proofs.reporting.put_entry.Tie as tie
-use Rattle.casetext.proofs.reporting.put_entry.Reads as reads
-use Rattle.casetext.proofs.reporting.put_entry.Lts as lts
-use Rattle.casetext.proofs.writing.put_fields.Reads as put-fields-reads
-use Rattle.casetext.proofs.writing.put_line.Reads as put-line-reads
 
 slice-aggregate-put-fields : tie.Need-slice-aggregate-put-fields
 slice-aggregate-put-fields c = search needs

@@ -6,10 +6,6 @@ use Rattle.casetext.specs.Report.{refusalText}
 use Rattle.casetext.proofs.Puts.{room-first, room-second, wrote-both}
 use Rattle.casetext.proofs.reporting.put_refusal.Statement.{statement}
 use Rattle.casetext.proofs.reporting.put_refusal.Tie as tie
-use Rattle.casetext.proofs.reporting.put_refusal.Reads as reads
-use Rattle.casetext.proofs.reporting.put_refusal.Lts as lts
-use Rattle.casetext.proofs.writing.put_field.Reads as put-field-reads
-use Rattle.casetext.proofs.writing.put_line.Reads as put-line-reads
 
 slice-aggregate-put-field : tie.Need-slice-aggregate-put-field
 slice-aggregate-put-field c = search needs

@@ -12,10 +12,6 @@ use Rattle.casetext.specs.Layout.{lineText}
 use Rattle.casetext.specs.Report.{entriesText, runText}
 use Rattle.casetext.proofs.reporting.put_run.Statement.{statement}
 use Rattle.casetext.proofs.reporting.put_run.Tie as tie
-use Rattle.casetext.proofs.reporting.put_run.Reads as reads
-use Rattle.casetext.proofs.reporting.put_run.Lts as lts
-use Rattle.casetext.proofs.reporting.put_entry.Reads as put-entry-reads
-use Rattle.casetext.proofs.writing.put_line.Reads as put-line-reads
 
 abbrev Inv-loop : tie.InvT-loop
 Inv-loop out₀ entries left at₀ i₀ t6 out at i = Running out₀ entries left out at i

@@ -7,11 +7,6 @@ use Rattle.casetext.specs.Report.{runText}
 use Rattle.casetext.proofs.Reports.{done-text, refused-text}
 use Rattle.casetext.proofs.reporting.put_trial.Statement.{statement}
 use Rattle.casetext.proofs.reporting.put_trial.Tie as tie
-use Rattle.casetext.proofs.reporting.put_trial.Reads as reads
-use Rattle.casetext.proofs.reporting.put_trial.Lts as lts
-use Rattle.casetext.proofs.reporting.put_refusal.Reads as put-refusal-reads
-use Rattle.casetext.proofs.reporting.put_run.Reads as put-run-reads
-use Rattle.store.proofs.trial.Reads as trial-reads
 
 trial-requires : tie.Need-trial-requires
 trial-requires c κs = search needs

@@ -12,11 +12,6 @@ use Rattle.casetext.proofs.Gathering.{told-count}
 use Rattle.casetext.proofs.Reports.{printed-refused, printed-case, room-for, report-is}
 use Rattle.casetext.proofs.reporting.report.Statement.{statement}
 use Rattle.casetext.proofs.reporting.report.Tie as tie
-use Rattle.casetext.proofs.reporting.report.Reads as reads
-use Rattle.casetext.proofs.reporting.report.Lts as lts
-use Rattle.casetext.proofs.reader.drafted.Reads as drafted-reads
-use Rattle.casetext.proofs.reporting.put_case.Reads as put-case-reads
-use Rattle.casetext.proofs.reporting.put_refusal.Reads as put-refusal-reads
 
 returns : tie.Need-returns
 unfolding reported reportRow

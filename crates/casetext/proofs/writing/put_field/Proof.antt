@@ -5,10 +5,6 @@ use Rattle.casetext.proofs.Puts.{room-first, room-second, wrote-both}
 use Rattle.casetext.specs.Numerals.{numeral}
 use Rattle.casetext.proofs.writing.put_field.Statement.{statement}
 use Rattle.casetext.proofs.writing.put_field.Tie as tie
-use Rattle.casetext.proofs.writing.put_field.Reads as reads
-use Rattle.casetext.proofs.writing.put_field.Lts as lts
-use Rattle.casetext.proofs.writing.put_number.Reads as put-number-reads
-use Rattle.casetext.proofs.writing.put_word.Reads as put-word-reads
 
 put-word-requires : tie.Need-put-word-requires
 put-word-requires c κs =

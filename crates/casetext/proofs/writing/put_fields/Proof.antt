@@ -5,9 +5,6 @@ use Rattle.casetext.proofs.Puts.{room-first, room-second, wrote-both}
 use Rattle.casetext.specs.Layout.{fieldText}
 use Rattle.casetext.proofs.writing.put_fields.Statement.{statement}
 use Rattle.casetext.proofs.writing.put_fields.Tie as tie
-use Rattle.casetext.proofs.writing.put_fields.Reads as reads
-use Rattle.casetext.proofs.writing.put_fields.Lts as lts
-use Rattle.casetext.proofs.writing.put_field.Reads as put-field-reads
 
 put-field-requires : tie.Need-put-field-requires
 put-field-requires c κs =

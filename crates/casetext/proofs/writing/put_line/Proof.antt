@@ -6,10 +6,6 @@ use Rattle.casetext.specs.Layout.{fieldText}
 use Rattle.casetext.specs.Words.{ascii}
 use Rattle.casetext.proofs.writing.put_line.Statement.{statement}
 use Rattle.casetext.proofs.writing.put_line.Tie as tie
-use Rattle.casetext.proofs.writing.put_line.Reads as reads
-use Rattle.casetext.proofs.writing.put_line.Lts as lts
-use Rattle.casetext.proofs.writing.put_field.Reads as put-field-reads
-use Rattle.casetext.proofs.writing.put_word.Reads as put-word-reads
 
 put-field-requires : tie.Need-put-field-requires
 put-field-requires c κs =

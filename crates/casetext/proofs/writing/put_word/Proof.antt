@@ -9,8 +9,6 @@ use denote.Ref.{now}
 use Rattle.casetext.proofs.Puts.{put-all}
 use Rattle.casetext.proofs.writing.put_word.Statement.{statement}
 use Rattle.casetext.proofs.writing.put_word.Tie as tie
-use Rattle.casetext.proofs.writing.put_word.Reads as reads
-use Rattle.casetext.proofs.writing.put_word.Lts as lts
 
 abbrev Inv-loop : tie.InvT-loop
 Inv-loop out₀ at name i₀ out i = (i ≤ length name) × (length out ≡ length out₀) × (out ≡ paste out₀ at name i)
