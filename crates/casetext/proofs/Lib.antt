@@ -13,3 +13,4 @@ pub mod Runs
 pub mod Lengths
 pub mod Reports
 pub mod Only
+pub mod Listed

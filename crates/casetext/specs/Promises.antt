@@ -86,3 +86,29 @@ ReportFits = (s : List ℕ) → length (printed s) ≤ reportBytes
 -- Something is always printed.
 abbrev pub PrintsSomething : Type 0
 PrintsSomething = (s : List ℕ) → 1 ≤ length (printed s)
+
+-- 01's listing, to the byte.
+unfoldable pub listedCase : List ℕ
+listedCase =
+    ascii "claimants=1\nceiling=1\ndo=ask 1 7\n" ++
+    ascii "do=step 1\ndo=step 1\ndo=step 1\ndo=step 1\ndo=step 1\ndo=step 1\ndo=step 1\ndo=step 1\n" ++
+    ascii "do=leave 1\ndo=step 1\ndo=step 1\n"
+
+unfoldable pub listing : List ℕ
+listing =
+    ascii "at=1 who=1 place=1 session=0 raised=0 token=0 answer=1\n" ++
+    ascii "at=2 who=1 place=2 session=7 raised=0 token=0 answer=2\n" ++
+    ascii "at=3 who=1 place=3 session=7 raised=1 token=0 answer=3\n" ++
+    ascii "at=4 who=1 place=4 session=7 raised=1 token=0 answer=4\n" ++
+    ascii "at=5 who=1 place=5 session=7 raised=1 token=1 answer=5\n" ++
+    ascii "at=6 who=1 place=6 session=7 raised=0 token=1 answer=6\n" ++
+    ascii "at=7 who=1 place=8 session=7 raised=0 token=1 answer=8\n" ++
+    ascii "at=8 who=1 place=9 session=7 raised=0 token=1 answer=9\n" ++
+    ascii "at=9 who=1 place=10 session=7 raised=0 token=1 answer=10\n" ++
+    ascii "at=10 who=1 place=11 session=7 raised=0 token=1 answer=11\n" ++
+    ascii "at=11 who=1 place=12 session=7 raised=0 token=0 answer=12\n" ++
+    ascii "at=12 who=1 place=0 session=0 raised=0 token=0 answer=0\n" ++
+    ascii "end=12\n"
+
+abbrev pub AsListed : Type 0
+AsListed = printed listedCase ≡ listing

@@ -29,7 +29,7 @@ pub enum Reading {
     },
 }
 
-// What a report came to: so many bytes, or a row that is too short for every report.
+// What a report came to: so many bytes, or a row that some report would not fit.
 pub enum Reported {
     Printed(usize),
     Short,

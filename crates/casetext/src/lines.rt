@@ -1,7 +1,7 @@
 // The lines of a case text, each read at a place.
 ghost use mathlib.Core.Path.{_≡_};
 ghost use Prim.Native.Nat.{_≤_};
-ghost use Rattle.casetext.specs.Lines.{ended, lineAt, ofKind, calledAt, askedBy, askAt, turnAt, doLineAt};
+ghost use Rattle.casetext.specs.Lines.{ended, lineAt, calledAt, askedBy, askAt, turnAt, doLineAt};
 use crate::Found;
 use crate::pieces::byte;
 use crate::pieces::field;

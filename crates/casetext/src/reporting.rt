@@ -41,6 +41,7 @@ fn put_run(out: &mut [u8], entries: &[u32], left: &[u32]) -> usize
     put_line(out, at, b"end=", i as u32)
 }
 
+// The one line of a text or an opening that is refused.
 fn put_refusal(out: &mut [u8], number: u8, line: usize) -> usize
     requires { ⌜ line ≤ 2051 ⌝ }
     requires { ⌜ Room (now out) 0 (refusalText number line) ⌝ }
