@@ -28,8 +28,8 @@ use Rattle.rules.proofs.Answer.byte.Kinds as answer-byte-kinds
 use Rattle.rules.proofs.Answer.byte.Reads as answer-byte-reads
 use Rattle.rules.proofs.Terms.refusal.Kinds as terms-refusal-kinds
 use Rattle.rules.proofs.Terms.refusal.Reads as terms-refusal-reads
-use Rattle.rules.proofs.tests.conflict.Kinds as tests-conflict-kinds
-use Rattle.rules.proofs.tests.conflict.Reads as tests-conflict-reads
+use Rattle.rules.proofs.order.conflict.Kinds as conflict-kinds
+use Rattle.rules.proofs.order.conflict.Reads as conflict-reads
 
 -- What two results that meet a contract have in common: the lifetimes and the arguments, and not what comes back of what was lent.
 abbrev pub Only : (n : ℕ) (ps : List (PK n)) (r : RK n) → Out n ps r → Type 0
@@ -72,5 +72,5 @@ only-answer-byte κs a x y s t p q = same p q
 pub only-terms-refusal : Only 0 terms-refusal-kinds.ps terms-refusal-kinds.r terms-refusal-reads.Post
 only-terms-refusal κs a x y s t p q = same p q
 
-pub only-tests-conflict : Only 0 tests-conflict-kinds.ps tests-conflict-kinds.r tests-conflict-reads.Post
-only-tests-conflict κs a x y s t p q = same p q
+pub only-conflict : Only 0 conflict-kinds.ps conflict-kinds.r conflict-reads.Post
+only-conflict κs a x y s t p q = same p q

@@ -8,8 +8,8 @@ use crate::Claimant;
 use crate::Kind;
 use crate::Row;
 use crate::Terms;
-use crate::tests::both;
-use crate::tests::within;
+use crate::bools::both;
+use crate::bools::within;
 
 // A row a place: Session, want, Choosing, Token, other, seen.
 const ROWS: [Row; 13] = [

@@ -2,13 +2,14 @@
 // that it read. Document 01 names each type and field here.
 
 mod answers;
+mod bools;
 mod check;
 mod look;
+mod order;
 mod steps;
-mod tests;
 mod turns;
 
-pub use tests::conflict;
+pub use order::conflict;
 
 // A claimant's record, in the order of a packed row. Session, Choosing and Token are shared; the rest is its own.
 pub struct Claimant {

@@ -7,10 +7,10 @@ use crate::Answer;
 use crate::Claimant;
 use crate::Terms;
 use crate::Turn;
-use crate::tests::before;
-use crate::tests::choose;
-use crate::tests::conflict;
-use crate::tests::either;
+use crate::bools::choose;
+use crate::bools::either;
+use crate::order::before;
+use crate::order::conflict;
 
 impl Claimant {
     // An accepted call answers the place reached.

@@ -8,10 +8,10 @@ use crate::Answer;
 use crate::Claimant;
 use crate::Terms;
 use crate::Turn;
-use crate::tests::both;
-use crate::tests::choose;
-use crate::tests::either;
-use crate::tests::within;
+use crate::bools::both;
+use crate::bools::choose;
+use crate::bools::either;
+use crate::bools::within;
 
 impl Terms {
     // The first of the refusals 1 and 2 that is given in a table of n rows, or else the number that is handed in.

@@ -1,8 +1,8 @@
 -- `conflict` meets its contract.
 use borrow.Author.Needs.{needs}
 use Rattle.rules.specs.Rules.{conflict}
-use Rattle.rules.proofs.tests.conflict.Statement.{statement}
-use Rattle.rules.proofs.tests.conflict.Tie as tie
+use Rattle.rules.proofs.order.conflict.Statement.{statement}
+use Rattle.rules.proofs.order.conflict.Tie as tie
 
 both-requires : tie.Need-both-requires
 both-requires c κs = search needs

@@ -1,8 +1,8 @@
 -- `before` meets its contract.
 use borrow.Author.Needs.{needs}
 use Rattle.rules.specs.Rules.{before}
-use Rattle.rules.proofs.tests.before.Statement.{statement}
-use Rattle.rules.proofs.tests.before.Tie as tie
+use Rattle.rules.proofs.order.before.Statement.{statement}
+use Rattle.rules.proofs.order.before.Tie as tie
 
 both-requires : tie.Need-both-requires
 both-requires c κs = search needs
