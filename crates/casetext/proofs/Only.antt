@@ -1,15 +1,12 @@
 -- Nothing else meets a public function's contract: two results, and two last contents of the row lent, that meet it at the same arguments are the same.
 -- Assumes nothing.
-use mathlib.Core.Path.{_≡_, refl, sym, _∙_}
+use mathlib.Core.Path.{_≡_, refl}
 use denote.Ref.{now}
-use Rattle.store.proofs.Only.{Only}
+use Rattle.store.proofs.Only.{Only, same}
 use Rattle.casetext.specs.Reading.{readInto, told, rowAfter}
 use Rattle.casetext.specs.Report.{reported, reportRow}
 use Rattle.casetext.proofs.reader.read as #read
 use Rattle.casetext.proofs.reporting.report as #report
-
-same : {A : Type 0} {x y z : A} → x ≡ z → y ≡ z → x ≡ y
-same p q = p ∙ sym q
 
 pub only-read : Only #read.ended (λ M. #read.clauses)
 only-read = record {

@@ -36,7 +36,8 @@ abbrev pub Only : (n : ℕ) (ps : List (PK n)) (r : RK n) → Out n ps r → Typ
 Only n ps r Post =
     (κs : Lfts n) (a : Dens κs ps) (x y : resT r κs .Denot) (s t : AtExit (endedOf n ps r) κs) → Post κs a x s → Post κs a y t → x ≡ y
 
-same : {A : Type 0} {x y z : A} → x ≡ z → y ≡ z → x ≡ y
+-- The law: two things that equal a third are equal.
+pub same : {A : Type 0} {x y z : A} → x ≡ z → y ≡ z → x ≡ y
 same p q = p ∙ sym q
 
 pub only-claimant-blank : Only 0 claimant-blank-kinds.ps claimant-blank-kinds.r claimant-blank-reads.Post
