@@ -54,15 +54,11 @@ pub enum Register {
     Token(u8),
 }
 
-// What a field may hold.
+// What a field may hold: 0, or what 01 sets it to, or either.
 pub enum Kind {
     Zero,
-    One,
-    SomeSession,
-    Wanted,
-    RowNumber,
-    UpToCeiling,
-    OneToCeiling,
+    Set,
+    ZeroOrSet,
 }
 
 // What each field may hold at one place.
