@@ -5,7 +5,10 @@ pub mod Exclusion
 pub mod Lateness
 pub mod Steps
 pub mod Overtaking
+pub mod Refusals
 pub mod Runs
+pub mod Traces
+pub mod Queueing
 pub mod Computing
 pub mod Witnesses
 pub mod OneRegister
