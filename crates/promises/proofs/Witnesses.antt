@@ -81,16 +81,16 @@ pub some-refused : SomeRefused
 unfolding SomeRefused computing decoded entered runRefusal running k
 some-refused = (
   λ r a b.
-  each SomeCall 1 8
-  ((k, Step 1, [], refl) &
-  (record { ceiling = 0 }, Step 1, opened 1, refl) &
-  (k, Step 1, claimant 13 0 0 0 0 0 0 ∷ [], refl) &
-  (k, Step 2, opened 1, refl) &
-  (k, Ask 1 0, opened 1, refl) &
-  (k, Ask 1 7, claimant 1 0 0 0 7 0 0 ∷ [], refl) &
-  (k, Leave 1, opened 1, refl) &
-  (k, Step 1, opened 1, refl) & tt)
-  r a (omega arith),
+      each SomeCall 1 8
+      ((k, Step 1, [], refl) &
+      (record { ceiling = 0 }, Step 1, opened 1, refl) &
+      (k, Step 1, claimant 13 0 0 0 0 0 0 ∷ [], refl) &
+      (k, Step 2, opened 1, refl) &
+      (k, Ask 1 0, opened 1, refl) &
+      (k, Ask 1 7, claimant 1 0 0 0 7 0 0 ∷ [], refl) &
+      (k, Leave 1, opened 1, refl) &
+      (k, Step 1, opened 1, refl) & tt)
+      r a (omega arith),
   (k, 50397184, opened 1, refl),
   (k, step 1 ∷ [], [], opened 1, refl),
 )
