@@ -7,14 +7,14 @@ use Prim.Native.Nat.{ℕ, _-_, _≤_}
 use native.Mathlib.Omega.{arith}
 use lib.Dec.{eqb, ltb}
 use lib.ListN.{length, set}
-use borrow.Author.Tests.{eqb-true, eqb-false, ne-eqb, not-false}
+use borrow.Author.Tests.{eqb-true, eqb-false, not-false}
 use Rattle.rules.specs.Tests.{pick, _and_, _or_, Refusal, first}
 use Rattle.rules.specs.Answers.{numberOf}
 use Rattle.rules.specs.Records.{placed, withWant}
 use Rattle.rules.specs.Places.{Place, placeAt, wellFormed}
 use Rattle.rules.specs.Places.Place.{rest, sign, raise, scan, take, lower, see-choosing, see-session, see-token, see-again, inside, drop-token, drop-session, nowhere}
 use Rattle.rules.specs.Rules.{conflict, before, reads, holds, reached, refusals, unless, stepped, askRefusals, asked, stepRefusals, stepTaken, leaveRefusals, left}
-use Rattle.rules.specs.Tables.{Table, recordOf, rowRead, valueRead, allWellFormed, caller, turn, unlessRefused, tableRefusal, called, Opens, Sound}
+use Rattle.rules.specs.Tables.{Table, recordOf, rowRead, valueRead, allWellFormed, caller, turn, unlessRefused, tableRefusal, called, Sound}
 use Rattle.rules.specs.declared.Claimant.{Claimant}
 use Rattle.rules.specs.declared.Terms.{Terms}
 use Rattle.rules.specs.declared.Turn.{Turn}
@@ -27,8 +27,8 @@ use Rattle.rules.proofs.Shapes.{well-formed}
 use Rattle.rules.proofs.Rows.{same-record, rows-formed, any-bounds}
 use Rattle.rules.proofs.Calls.{shared-none, first-own, value-holds, answer-small}
 use Rattle.store.specs.Schedules.{decoded, entered}
-use Rattle.store.specs.Runs.{outcomeOf, openRefusal, opening, runRefusal, running}
-use Rattle.store.specs.Trials.{termsOf, trialRefusal, trialLeft, trialOutcome}
+use Rattle.store.specs.Runs.{outcomeOf, openRefusal, opening, running}
+use Rattle.store.specs.Trials.{trialLeft, trialOutcome}
 use Rattle.store.specs.Standings.{standingRefusal, standingOn, standingOf}
 use Rattle.store.specs.Laws.{isNine, callOf}
 use Rattle.store.specs.declared.Outcome.{Outcome}

@@ -1,6 +1,4 @@
 -- The laws that the layers above rely on.
-use mathlib.Core.Path.{refl}
-use Prim.Native.Nat.{ℕ, _≤_}
 use native.Mathlib.Omega.{arith}
 use lib.Dec.{eqb}
 use borrow.Author.Tests.{eqb-true, eqb-false, lt-ltb}
