@@ -8,12 +8,13 @@ use lib.Seq.{take-length}
 use Rattle.rules.specs.Tables.{Table, opened, recordOf}
 use Rattle.rules.specs.declared.Terms.{Terms}
 use Rattle.store.specs.Schedules.{claimantIn, decoded, entered, ran}
-use Rattle.store.specs.Runs.{running}
+use Rattle.store.specs.Runs.{Ran, running}
 use Rattle.store.specs.Trials.{five, traced}
+use Rattle.store.specs.Answers.{outcomeNumber}
 use Rattle.promises.specs.Refusals.{EntryAnswers}
 use Rattle.promises.specs.Runs.{tableAt, entryAt, TraceShowsRun}
 use Rattle.promises.proofs.Refusals.{entry-answers}
-use Rattle.promises.proofs.Runs.{ran-calls, table-is, answer-is}
+use Rattle.promises.proofs.Runs.{ran-calls, accepted-run, table-is, answer-is}
 
 trace-length : (k : Terms) (es : List ℕ) (t : Table) → length (traced k es t) ≡ 5 * length es
 unfolding traced
@@ -38,6 +39,7 @@ trace-shows-run r =
     let es = r .schedule in
     let start = opened (r .claimants) in
     record {
+      accepted = ap (λ (x : Ran). outcomeNumber (x .outcome)) (accepted-run r es (r .room));
       entries = λ i h. record {
         numbers =
             trace-at k es start i h

@@ -12,6 +12,7 @@ use Rattle.rules.specs.declared.Call.{Call}
 use Rattle.store.specs.Schedules.{claimantIn, decoded, ran}
 use Rattle.store.specs.Runs.{Ran, running}
 use Rattle.store.specs.Trials.{traced}
+use Rattle.store.specs.Answers.{outcomeNumber}
 use Rattle.store.specs.declared.Entry.{Entry}
 use Rattle.store.specs.declared.Entry.the-variants.{Made, Barred}
 use Rattle.promises.specs.Sequences.{placeOf, atOdds}
@@ -43,7 +44,7 @@ RunExcludes =
     placeOf t j ≡ 10 →
     atOdds t i j ≡ false
 
--- A run on a freshly opened table that has nothing to refuse: an answer row with a byte for each entry.
+-- A run on a freshly opened table, with a byte in the answer row for each entry: nothing refuses it.
 pub record FreshRun : Type 0 where
   pub claimants : ℕ
   pub terms : Terms
@@ -72,19 +73,21 @@ RefusedInRun =
     1 ≤ x →
     (tableAt r (suc i) ≡ tableAt r i) × (getD (whole r .answers) i 0 ≡ 32 + x)
 
--- What `boardcase` prints, five numbers an entry: place, Session, Choosing and Token of the claimant that the entry names, in the table that the run has come to,
--- which is that after the calls so far, and the byte that the run answers.
+-- The numbers that `boardcase` prints.
 abbrev pub trace : FreshRun → List ℕ
 trace r = traced (r .terms) (r .schedule) (opened (r .claimants))
 
+-- Five of the entry after the first i: place, Session, Choosing and Token of the claimant that it names, in the table that the run has come to by it, and the byte
+-- that the run answers. That table is the one after the calls made so far.
 pub record Shows (r : FreshRun) (i : ℕ) : Type 0 where
   pub numbers :
       let c = recordOf (tableAt r (suc i)) (claimantIn (entryAt r i)) in
       take 5 (drop (5 * i) (trace r)) ≡ c .place ∷ c .session ∷ c .choosing ∷ c .token ∷ getD (whole r .answers) i 0 ∷ []
   pub table : tableAt r (suc i) ≡ after (r .terms) (callsIn (take (suc i) (r .schedule))) (opened (r .claimants))
 
--- Nothing else is printed, and the last of these tables is the one that the whole run gives back.
+-- The run is accepted, nothing else is printed, and the last of these tables is the one that the run gives back.
 pub record TraceShows (r : FreshRun) : Type 0 where
+  pub accepted : outcomeNumber (whole r .outcome) ≡ 0
   pub entries : (i : ℕ) → i < length (r .schedule) → Shows r i
   pub no-more : length (trace r) ≡ 5 * length (r .schedule)
   pub end : tableAt r (length (r .schedule)) ≡ whole r .rows
