@@ -76,7 +76,7 @@ unopposed i t e (suc j) h = calm-row i (recordOf t i .want) 1 t j e (omega arith
 k : Terms
 k = record { ceiling = 9 }
 
--- Refused: no row, no ceiling, a place that there is not; a claimant that there is not, session 0, an ask and a leave and a step that are not due; a kind that there is not; no room for an answer.
+-- A call for each of 1 to 8, in their order, an entry and a run.
 pub some-refused : SomeRefused
 unfolding SomeRefused computing decoded entered runRefusal running k
 some-refused = (
@@ -89,8 +89,8 @@ some-refused = (
       (k, Ask 1 0, opened 1, refl) &
       (k, Ask 1 7, claimant 1 0 0 0 7 0 0 ∷ [], refl) &
       (k, Leave 1, opened 1, refl) &
-      (k, Step 1, opened 1, refl) & tt)
-      r a (omega arith),
+      (k, Step 1, opened 1, refl) &
+      tt) r a (omega arith),
   (k, 50397184, opened 1, refl),
   (k, step 1 ∷ [], [], opened 1, refl),
 )

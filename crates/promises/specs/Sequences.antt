@@ -38,7 +38,7 @@ stepOf i (Ask w s) t t′ = false
 stepOf i (Step w) t t′ = eqb w i
 stepOf i (Leave w) t t′ = false
 
--- The call is an ask of claimant i that is accepted; a leave that is. Refused ones move nobody.
+-- The call is an ask of claimant i that is accepted, or a leave that is: nothing else takes it from the one place to the other.
 unfoldable pub asks : (i : ℕ) → Deed
 asks i c t t′ = eqb (placeOf t i) 0 and eqb (placeOf t′ i) 1
 

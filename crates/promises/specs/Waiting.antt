@@ -34,7 +34,7 @@ Unopposed i t = (j : ℕ) → j ≢ i → conflict (recordOf t j .session) (reco
 unfoldable pub turnsAway : (i : ℕ) → Deed
 turnsAway i c t t′ = eqb (placeOf t i) 4 and eqb (placeOf t′ i) 12
 
--- Claimant i has asked, and has all those steps among the calls from then on. It does not leave again meanwhile; a leave that is refused does not matter.
+-- Claimant i has asked, and has all those steps among the calls from then on. Meanwhile no leave of its own is accepted.
 pub record Unhindered (n : ℕ) (k : Terms) (calls : List Call) (t : Table) (i : ℕ) : Type 0 where
   pub asked : placeOf t i ≡ 1
   pub nobody-conflicts : Throughout (Unopposed i) k calls t

@@ -1,4 +1,4 @@
--- That these things happen: the promises are not met by a lock in which nobody gets inside, waits or is overtaken.
+-- That these things happen: the promises are not met by a lock in which nobody is refused, gets inside, waits or is overtaken.
 use Prim.Native.Nat.{ℕ, _≤_}
 use mathlib.Core.Bool.{true}
 use mathlib.Core.List.{List, _∷_, _++_}
