@@ -10,6 +10,7 @@ pub mod Runs
 pub mod Traces
 pub mod Queueing
 pub mod Computing
+pub mod Always
 pub mod Witnesses
 pub mod OneRegister
 pub mod Waiting
