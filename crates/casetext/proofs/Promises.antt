@@ -22,7 +22,7 @@ use Rattle.casetext.specs.Promises.FirstBad.{line-1, line-2, line-3-on}
 use Rattle.casetext.specs.Promises.Cause.{long, broken, many}
 use Rattle.casetext.specs.declared.Found.{Found}
 use Rattle.casetext.specs.declared.Found.the-variants.{Is, Broken}
-use Rattle.rules.proofs.Choices.{decide}
+use borrow.Table.Steps.{cases as decide}
 use Rattle.casetext.proofs.Finding.{not-found}
 use Rattle.casetext.proofs.Gathering.{lines-end, lines-broken, lines-full}
 use Rattle.casetext.proofs.Stands.{Stands, stands-at, rest-at}
