@@ -55,14 +55,14 @@ pub enum Register {
 }
 
 // What a field may hold: 0, or what 01 sets it to, or either.
-pub enum Kind {
+pub(crate) enum Kind {
     Zero,
     Set,
     ZeroOrSet,
 }
 
 // What each field may hold at one place.
-pub struct Row {
+pub(crate) struct Row {
     pub session: Kind,
     pub want: Kind,
     pub choosing: Kind,

@@ -1,27 +1,13 @@
 -- What the layers above rely on of entries, beside the definitions. Proved in `proofs/Laws`.
 use Prim.Native.Nat.{ℕ, _≤_}
-use mathlib.Core.Bool.{Bool, not}
 use mathlib.Core.Path.{_≡_}
-use lib.Dec.{eqb, ltb}
-use Rattle.rules.specs.Tests.{pick, _and_, _or_}
+use Rattle.rules.specs.Tests.{pick}
 use Rattle.rules.specs.Answers.{numberOf}
 use Rattle.rules.specs.Tables.{Table, called, Sound}
 use Rattle.rules.specs.declared.Terms.{Terms}
-use Rattle.rules.specs.declared.Call.{Call}
-use Rattle.rules.specs.declared.Call.the-variants.{Ask, Step, Leave}
 use Rattle.rules.specs.declared.Answer.the-variants.{Refused}
 use Rattle.store.specs.declared.Entry.{Entry}
-use Rattle.store.specs.Schedules.{kindIn, claimantIn, sessionIn, decoded, entered}
-
--- Refusal 9: kind over 2, or session field not 0 with kind 0 or 2.
-abbrev pub isNine : (entry : ℕ) → Bool
-isNine e = ltb 2 (kindIn e) or (not (eqb (kindIn e) 1) and not (eqb (sessionIn e) 0))
-
--- The call of every other entry.
-abbrev pub callOf : (entry : ℕ) → Call
-callOf e =
-    pick (eqb (kindIn e) 0) (Step (claimantIn e))
-    (pick (eqb (kindIn e) 1) (Ask (claimantIn e) (sessionIn e)) (Leave (claimantIn e)))
+use Rattle.store.specs.Schedules.{isNine, callOf, decoded, entered}
 
 -- An entry is refused with 9 and changes nothing, or its call is made.
 abbrev pub EntryIs : Type 0
