@@ -1,14 +1,14 @@
 -- What is promised of the reader and of the report: the texts accepted and refused are exactly those that 01 names.
 use Prim.Native.Nat.{ℕ, _+_, _≤_, _<_}
+use mathlib.Core.Bool.{false}
 use mathlib.Core.Path.{_≡_}
 use mathlib.Core.Logic.{_≢_, _↔_}
 use mathlib.Core.List.{List, [], _∷_, _++_, map}
 use lib.ListN.{length, getD, drop}
-use Rattle.rules.specs.declared.Call.{Call}
-use Rattle.store.specs.Schedules.{decoded}
-use Rattle.store.specs.declared.Entry.the-variants.{Made}
+use Rattle.store.specs.Schedules.{isNine, callOf}
 use Rattle.casetext.specs.Words.{ascii}
-use Rattle.casetext.specs.Layout.{Turn, InRange, AllInRange, entryOf, lineText, doText, caseText, Writes}
+use Rattle.casetext.specs.Layout.{Turn, InRange, AllInRange, entryOf, callSaid, lineText, doText, caseText, Writes}
+use Rattle.casetext.specs.Layout.Turn.{step}
 use Rattle.casetext.specs.Reading.{reading, readInto, told, rowAfter}
 use Rattle.casetext.specs.Answers.{readingNumber, readingLine, readingValues}
 use Rattle.casetext.specs.Report.{printed, reportBytes}
@@ -98,11 +98,11 @@ AcceptedReading =
     (readingNumber (told said) ≡ 0) × (readingValues (told said) ≡ claimants ∷ ceiling ∷ length entries ∷ [])
     × (rowAfter said row ≡ entries ++ drop (length entries) row)
 
--- Every entry given back makes a call: it has no kind and no session field that refusal 9 names.
+-- Every entry given back makes the very call that its do line says: refusal 9 names none of them.
 abbrev pub EntriesMade : Type 0
 EntriesMade =
-    (s : List ℕ) (n k : ℕ) (entries : List ℕ) → reading s ≡ accepted n k entries
-    → (i : ℕ) → i < length entries → (c : Call) × (decoded (getD entries i 0) ≡ Made c)
+    (s : List ℕ) (n k : ℕ) (entries : List ℕ) (c : IsCase s n k entries) (i : ℕ) → i < length entries
+    → let e = getD entries i 0 in (isNine e ≡ false) × (callOf e ≡ callSaid (getD (c .turns) i (step 0)))
 
 -- No report is longer than the row that every report fits.
 abbrev pub ReportFits : Type 0

@@ -26,11 +26,10 @@ use Rattle.rules.proofs.Choices.{decide, none-given}
 use Rattle.rules.proofs.Shapes.{well-formed}
 use Rattle.rules.proofs.Rows.{same-record, rows-formed, any-bounds}
 use Rattle.rules.proofs.Calls.{shared-none, first-own, value-holds, answer-small}
-use Rattle.store.specs.Schedules.{decoded, entered}
+use Rattle.store.specs.Schedules.{isNine, callOf, decoded, entered}
 use Rattle.store.specs.Runs.{outcomeOf, openRefusal, opening, running}
 use Rattle.store.specs.Trials.{trialLeft, trialOutcome}
 use Rattle.store.specs.Standings.{standingRefusal, standingOn, standingOf}
-use Rattle.store.specs.Laws.{isNine, callOf}
 use Rattle.store.specs.declared.Outcome.{Outcome}
 use Rattle.store.specs.declared.Outcome.the-variants.{Done, Refused as Not-done}
 use Rattle.store.proofs.Laws.{entry-is, entry-answer-small}

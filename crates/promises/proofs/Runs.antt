@@ -17,30 +17,25 @@ use Rattle.rules.specs.declared.Call.{Call}
 use Rattle.rules.proofs.Choices.{decide, within-holds}
 use Rattle.rules.proofs.Rows.{after-append, opened-sound}
 use Rattle.rules.proofs.Keeping.{sound-after}
-use Rattle.store.specs.Schedules.{decoded, entered, ran, answered}
+use Rattle.store.specs.Schedules.{isNine, callOf, decoded, entered, ran, answered}
 use Rattle.store.specs.Runs.{Ran, runRefusal, running}
-use Rattle.store.specs.Laws.{isNine, callOf}
-use Rattle.store.specs.declared.Entry.{Entry}
-use Rattle.store.specs.declared.Entry.the-variants.{Made, Barred}
 use Rattle.store.specs.declared.Outcome.the-variants.{Done}
 use Rattle.store.proofs.Laws.{entry-is}
 use Rattle.promises.specs.Sequences.{placeOf, atOdds}
 use Rattle.promises.specs.Fairness.{Exclusion}
 use Rattle.promises.specs.Refusals.{EntryRefused, RefusedAnswers}
-use Rattle.promises.specs.Runs.{callIn, callsIn, RunMakesCalls, RunExcludes, FreshRun, whole, tableAt, entryAt, RefusedInRun}
+use Rattle.promises.specs.Runs.{callsIn, RunMakesCalls, RunExcludes, FreshRun, whole, tableAt, entryAt, RefusedInRun}
 use Rattle.promises.proofs.Exclusion.{exclusion}
 use Rattle.promises.proofs.Refusals.{entry-refused, refused-answers}
-
-entered-calls : (k : Terms) (e : Entry) (t : Table) → entered k e t .table ≡ after k (callIn e) t
-unfolding entered after
-entered-calls k (Made c) t = refl
-entered-calls k (Barred r) t = refl
 
 pub ran-calls : (k : Terms) (es : List ℕ) (t : Table) → ran k es t ≡ after k (callsIn es) t
 unfolding ran callsIn after
 ran-calls k [] t = refl
 ran-calls k (e ∷ es) t =
-    rw (after-append k (callIn (decoded e)) (callsIn es) t, ← entered-calls k (decoded e) t) (ran-calls k es (entered k (decoded e) t .table))
+    rw (entry-is k e t)
+    (decide (isNine e)
+    (λ a. rw a (ran-calls k es t))
+    (λ a. rw a (ran-calls k es (called k (callOf e) t .table))))
 
 ran-append : (k : Terms) (es fs : List ℕ) (t : Table) → ran k (es ++ fs) t ≡ ran k fs (ran k es t)
 unfolding ran

@@ -17,12 +17,11 @@ use Rattle.rules.specs.declared.Call.{Call}
 use Rattle.rules.specs.declared.Call.the-variants.{Ask, Step, Leave}
 use Rattle.rules.specs.declared.Answer.{Answer}
 use Rattle.rules.specs.declared.Answer.the-variants.{Refused}
-use Rattle.store.specs.Schedules.{decoded, entered}
+use Rattle.store.specs.Schedules.{isNine, callOf, decoded, entered}
 use Rattle.store.specs.Runs.{outcomeOf, openRefusal, opening, runRefusal, running}
 use Rattle.store.specs.Trials.{termsOf, trialRefusal, trialLeft, trialOutcome}
 use Rattle.store.specs.Standings.{standingRefusal, standingOf}
 use Rattle.store.specs.Answers.{outcomeNumber, standingNumber}
-use Rattle.store.specs.Laws.{isNine, callOf}
 use Rattle.store.specs.declared.Outcome.{Outcome}
 use Rattle.promises.specs.Sequences.{placeOf}
 

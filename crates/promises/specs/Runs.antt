@@ -5,27 +5,21 @@ use mathlib.Core.List.{List, [], _∷_, _++_}
 use mathlib.Core.Logic.{_≢_}
 use mathlib.Core.Path.{_≡_}
 use lib.ListN.{length, getD, take, drop}
-use Rattle.rules.specs.Tests.{first}
+use Rattle.rules.specs.Tests.{pick, first}
 use Rattle.rules.specs.Tables.{Table, opened, recordOf, after, Opens}
 use Rattle.rules.specs.declared.Terms.{Terms}
 use Rattle.rules.specs.declared.Call.{Call}
-use Rattle.store.specs.Schedules.{claimantIn, decoded, ran}
+use Rattle.store.specs.Schedules.{claimantIn, isNine, callOf, ran}
 use Rattle.store.specs.Runs.{Ran, running}
 use Rattle.store.specs.Trials.{traced}
 use Rattle.store.specs.Answers.{outcomeNumber}
-use Rattle.store.specs.declared.Entry.{Entry}
-use Rattle.store.specs.declared.Entry.the-variants.{Made, Barred}
 use Rattle.promises.specs.Sequences.{placeOf, atOdds}
 use Rattle.promises.specs.Refusals.{entryRefusals}
 
 -- The calls of a schedule: those of its entries, but for the entries that are refused with 9.
-abbrev pub callIn : Entry → List Call
-callIn (Made c) = c ∷ []
-callIn (Barred r) = []
-
 unfoldable pub callsIn : (schedule : List ℕ) → List Call
 callsIn [] = []
-callsIn (e ∷ es) = callIn (decoded e) ++ callsIn es
+callsIn (e ∷ es) = pick (isNine e) [] (callOf e ∷ []) ++ callsIn es
 
 -- Wherever a schedule is cut in two, the table after it is that after the calls of the one part and then of the other.
 unfoldable pub RunMakesCalls : Type 0
