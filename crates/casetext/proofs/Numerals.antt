@@ -198,3 +198,14 @@ number-stands most s at {n} {next} e =
         let r = first-read most at b (drop (suc at) s) (omega arith) (g .1) (rw c at f) in
         stands-as s at next (numeral n) (b ∷ r .0) (drop (length (r .0)) (drop (suc at) s)) (r .2) (r .3)
         (c ∙ ap (λ (l : List ℕ). b ∷ l) (r .1))
+
+-- A numeral, split before its last digit or its last two.
+pub numeral-last : (n : ℕ) → 10 ≤ n → numeral n ≡ numeral (n / 10) ++ numeral (n % 10)
+numeral-last n h = rw (numeral-one (n % 10) (omega arith)) (numeral-more n h)
+
+pub numeral-pair : (n : ℕ) → 100 ≤ n → numeral n ≡ numeral (n / 100) ++ (numeral (n % 100 / 10) ++ numeral (n % 100 % 10))
+numeral-pair n h =
+    let a : n / 10 / 10 ≡ n / 100 = omega arith in
+    let b : n / 10 % 10 ≡ n % 100 / 10 = omega arith in
+    let d : n % 10 ≡ n % 100 % 10 = omega arith in
+    numeral-last n (omega arith) ∙ rw (numeral-last (n / 10) (omega arith), a, b, d) (append-assoc (numeral (n / 100)) (numeral (n % 100 / 10)) (numeral (n % 100 % 10)))

@@ -54,3 +54,10 @@ pub begins-room : (w s : List ℕ) (at : ℕ) → begins w (drop at s) ≡ true 
 begins-room w s at e =
     let h = ap length (begins-true w (drop at s) e) in
     omega (arith, simp (length-append, length-drop) at h)
+
+-- a text that is shorter than the word doesn't begin with it
+pub begins-short : (w s : List ℕ) (at : ℕ) → length s - at < length w → begins w (drop at s) ≡ false
+begins-short w s at h =
+    decide (begins w (drop at s))
+    (λ e. absurd (omega (arith, h, begins-room w s at e)))
+    (λ e. e)
