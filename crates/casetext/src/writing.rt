@@ -120,7 +120,14 @@ pub(crate) fn put_long_field(out: &mut [u8], at: usize, name: &[u8], n: u32) -> 
 }
 
 // Two words, each with its number.
-pub(crate) fn put_fields(out: &mut [u8], at: usize, name: &[u8], n: u32, other: &[u8], m: u32) -> usize
+pub(crate) fn put_fields(
+    out: &mut [u8],
+    at: usize,
+    name: &[u8],
+    n: u32,
+    other: &[u8],
+    m: u32,
+) -> usize
     requires { ⌜ Room (now out) at (fieldText (now name) n ++ fieldText (now other) m) ⌝ }
     ensures { λ r. ⌜ Wrote (now (out .entry)) at (fieldText (now (name .entry)) n ++ fieldText (now (other .entry)) m) r (now (out .exit)) ⌝ }
 {
