@@ -16,10 +16,6 @@ use Rattle.casetext.proofs.Finding.{true-not-false}
 
 module _ (w s : List ℕ) (i at : ℕ) (more : i < length w) where
   -- nothing is left of the text
-  pub begins-end : length s ≤ at → begins (drop i w) (drop at s) ≡ false
-  unfolding begins
-  begins-end h = rw (drop-cons w i 0, drop-of-length-le s h)
-
   module _ (h : at < length s) where
     pub begins-differ : (getD s at 0 ≡ getD w i 0 → ⊥) → begins (drop i w) (drop at s) ≡ false
     unfolding begins
