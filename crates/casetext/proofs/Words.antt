@@ -7,23 +7,22 @@ use mathlib.Core.Path.{_≡_, refl, sym, ap}
 use mathlib.Core.Bool.{true, false}
 use mathlib.Core.List.{List, [], _∷_, _++_}
 use lib.Dec.{eqb}
-use lib.ListN.{length, getD, drop, drop-of-length-le, length-append, length-drop}
+use lib.ListN.{length, getD, drop, length-append, length-drop}
 use lib.Seq.{drop-cons}
 use borrow.Author.Tests.{eq-eqb, ne-eqb, eqb-true}
 use borrow.Table.Steps.{cases as decide}
 use Rattle.casetext.specs.Pieces.{begins}
 use Rattle.casetext.proofs.Finding.{true-not-false}
 
-module _ (w s : List ℕ) (i at : ℕ) (more : i < length w) where
-  -- nothing is left of the text
-  module _ (h : at < length s) where
-    pub begins-differ : (getD s at 0 ≡ getD w i 0 → ⊥) → begins (drop i w) (drop at s) ≡ false
-    unfolding begins
-    begins-differ ne = rw (drop-cons w i 0 more, drop-cons s at 0 h, ne-eqb _ _ ne)
+-- a byte of the text beside one of the word
+module _ (w s : List ℕ) (i at : ℕ) (more : i < length w) (h : at < length s) where
+  pub begins-differ : (getD s at 0 ≡ getD w i 0 → ⊥) → begins (drop i w) (drop at s) ≡ false
+  unfolding begins
+  begins-differ ne = rw (drop-cons w i 0 more, drop-cons s at 0 h, ne-eqb _ _ ne)
 
-    pub begins-same : getD s at 0 ≡ getD w i 0 → begins (drop i w) (drop at s) ≡ begins (drop (i + 1) w) (drop (at + 1) s)
-    unfolding begins
-    begins-same e = rw (add-one i, add-one at, drop-cons w i 0 more, drop-cons s at 0 h, eq-eqb _ _ e)
+  pub begins-same : getD s at 0 ≡ getD w i 0 → begins (drop i w) (drop at s) ≡ begins (drop (i + 1) w) (drop (at + 1) s)
+  unfolding begins
+  begins-same e = rw (add-one i, add-one at, drop-cons w i 0 more, drop-cons s at 0 h, eq-eqb _ _ e)
 
 pub begins-true : (w l : List ℕ) → begins w l ≡ true → l ≡ w ++ drop (length w) l
 unfolding begins

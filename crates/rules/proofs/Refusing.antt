@@ -1,14 +1,13 @@
 -- From a number of refusal to what comes of it, once for the three calls.
-use mathlib.Core.Path.{_≡_, sym, _∙_}
-use mathlib.Core.Bool.{Bool, true, not}
-use mathlib.Core.List.{List}
+use mathlib.Core.Path.{_≡_, sym}
+use mathlib.Core.Bool.{true, not}
 use mathlib.Core.Logic.{_≢_}
 use Prim.Native.Nat.{ℕ, _≤_}
 use native.Mathlib.Omega.{arith}
 use native.Mathlib.Nat.{le-trans}
 use lib.Dec.{eqb}
 use borrow.Author.Tests.{eq-eqb, ne-eqb, eqb-true, eqb-false, not-false, le-leb}
-use Rattle.rules.specs.Tests.{_and_, within, Refusal, first}
+use Rattle.rules.specs.Tests.{_and_, within, first}
 use Rattle.rules.specs.Places.{isSession, wellFormed, rows}
 use Rattle.rules.specs.Rules.{reads, holds, refusals, stepRefusals, refused, unless}
 use Rattle.rules.specs.declared.Claimant.{Claimant}

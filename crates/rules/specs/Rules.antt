@@ -1,6 +1,6 @@
 -- The rules of the group Bakery for one claimant, one register read or written a step.
 use Prim.Native.Nat.{ℕ, _+_, max}
-use mathlib.Core.Bool.{Bool, true, false, not}
+use mathlib.Core.Bool.{Bool, true, not}
 use mathlib.Core.List.{List, [], _∷_, _++_}
 use lib.Dec.{eqb, ltb, leb}
 use Rattle.rules.specs.Tests.{pick, _and_, _or_, within, Refusal, _when_, first}
@@ -10,7 +10,6 @@ use Rattle.rules.specs.Places.Place.{rest, sign, raise, scan, take, lowe
 use Rattle.rules.specs.declared.Claimant.{Claimant}
 use Rattle.rules.specs.declared.Terms.{Terms}
 use Rattle.rules.specs.declared.Turn.{Turn}
-use Rattle.rules.specs.declared.Answer.{Answer}
 use Rattle.rules.specs.declared.Answer.the-variants.{Reached, TurnedAway, Refused}
 use Rattle.rules.specs.declared.Register.{Register}
 use Rattle.rules.specs.declared.Register.the-variants.{Nothing, Choosing, Session, Token}

@@ -4,7 +4,7 @@ use contract.Running.{tablesOf}
 use mathlib.Core.Bool.{true, not}
 use lib.Dec.{T, ltb, ltb→lt}
 use lib.Seq.{sets as put-all, length-sets}
-use Rattle.walks.proofs.Kit.{_≡_, refl, sym, ap, _∙_, ℕ, _+_, _*_, _-_, _<_, _≤_, _^_, zero-le, le-antisymm, arith, List, [], _∷_, _++_, length, getD, drop, w32, w64, vint, Lft, Share, !, Is, RefT, now, sliceVal, slice-vals, needs, free, has, Hold, val, shr, mut, _▸_, sets, ifs, loops, again, whiles-below, reads, Site, Params, Function, by-value, shared, mutable, Walk, walks, returns, site, closes, num, Meets, knows, calls-to, looks-mut, changes}
+use Rattle.walks.proofs.Kit.{_≡_, refl, sym, ap, _∙_, ℕ, _+_, _*_, _-_, _<_, _≤_, _^_, zero-le, le-antisymm, arith, List, [], _∷_, _++_, length, getD, drop, w32, w64, vint, Lft, Share, !, Is, RefT, now, sliceVal, slice-vals, needs, free, has, Hold, val, shr, mut, _▸_, sets, ifs, loops, again, whiles-below, reads, Site, Params, Function, by-value, shared, mutable, Walk, walks, returns, site, closes, num, Meets, knows, calls-to, changes}
 use Rattle.rules.specs.Tables.{recordOf, allWellFormed, Opens, Sound}
 use Rattle.rules.specs.declared.Claimant.{Claimant}
 use Rattle.rules.specs.declared.Terms.{Terms}

@@ -1,6 +1,6 @@
 -- `Claimant::ask` meets its contract: refused by the first refusal, or at place 1.
 use borrow.Author.Needs.{needs}
-use mathlib.Core.Path.{sym, _∙_}
+use mathlib.Core.Path.{_∙_}
 use Rattle.rules.specs.Rules.{asked}
 use Rattle.rules.proofs.Refusing.{refuses, accepts}
 use Rattle.rules.proofs.Claimant.ask.Statement.{statement}

@@ -1,6 +1,6 @@
 -- `Claimant::leave` meets its contract: refused by the first refusal, or at place 11.
 use borrow.Author.Needs.{needs}
-use mathlib.Core.Path.{sym, _∙_}
+use mathlib.Core.Path.{_∙_}
 use Rattle.rules.specs.Rules.{left}
 use Rattle.rules.proofs.Refusing.{refuses, accepts}
 use Rattle.rules.proofs.Claimant.leave.Statement.{statement}

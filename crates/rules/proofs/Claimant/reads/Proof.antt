@@ -1,11 +1,9 @@
 -- `Claimant::reads` meets its contract: each number that reads is looked up, and no other number reads.
-use mathlib.Core.Path.{_≡_, refl, sym, ap}
+use mathlib.Core.Path.{_≡_, refl, sym}
 use mathlib.Core.Logic.{_≢_, inl, inr, ⊎-elim}
 use Prim.Native.Nat.{ℕ}
-use native.Mathlib.Omega.{arith}
-use Rattle.rules.specs.Places.{Place, placeAt}
+use Rattle.rules.specs.Places.{placeAt}
 use Rattle.rules.specs.Rules.{readAt, reads}
-use Rattle.rules.specs.declared.Register.{Register}
 use Rattle.rules.specs.declared.Register.the-variants.{Nothing}
 use Rattle.rules.proofs.Shapes.{_&_}
 use Rattle.rules.proofs.Places.{by-place}

@@ -3,13 +3,13 @@ use Prim.Native.Nat.{ℕ, _≤_}
 use native.Mathlib.Omega.{arith}
 use borrow.Author.Needs.{needs}
 use borrow.Author.Tests.{le-leb, lt-leb}
-use mathlib.Core.Path.{_≡_, refl, sym, _∙_}
+use mathlib.Core.Path.{_≡_, refl, _∙_}
 use mathlib.Core.Logic.{_≢_, inl, inr, ⊎-elim}
 use Rattle.rules.specs.Places.{rows, fits, wellFormed}
 use Rattle.rules.specs.declared.Claimant.{Claimant}
 use Rattle.rules.specs.declared.Terms.{Terms}
 use Rattle.rules.specs.declared.Row.{Row}
-use Rattle.rules.proofs.Shapes.{rowAt, Each, each, _&_}
+use Rattle.rules.proofs.Shapes.{rowAt, each, _&_}
 use Rattle.rules.proofs.Claimant.well_formed.Statement.{statement}
 use Rattle.rules.proofs.Claimant.well_formed.Tie as tie
 
