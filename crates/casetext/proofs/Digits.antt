@@ -11,7 +11,7 @@ use lib.Seq.{drop-cons}
 use lib.Dec.{eqb, leb}
 use borrow.Author.Tests.{lt-ltb, le-ltb, le-leb, lt-leb, leb-true}
 use Rattle.casetext.specs.Pieces.{begins, digitsFrom, isDigit, numberAt, fieldAt}
-use Rattle.rules.proofs.Choices.{decide}
+use borrow.Table.Steps.{cases as decide}
 use Rattle.casetext.proofs.Finding.{not-found}
 use Rattle.casetext.specs.declared.Found.the-variants.{Is, Broken}
 

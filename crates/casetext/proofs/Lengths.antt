@@ -1,27 +1,22 @@
 -- How long a report can be.
 -- Assumes nothing.
-use Prim.Native.Nat.{ℕ, zero, suc, _+_, _*_, _≤_}
+use Prim.Native.Nat.{ℕ, _+_, _*_, _≤_}
 use native.Mathlib.Omega.{arith}
 use mathlib.Core.Path.{_≡_, refl, ap, _∙_}
-use mathlib.Core.Bool.{true}
 use mathlib.Core.List.{List, [], _∷_}
-use lib.Dec.{eqb, leb}
+use lib.Dec.{eqb}
 use lib.ListN.{length, length-append, length-map}
-use borrow.Author.Tests.{eqb-false, leb-true, leb-false, not-false}
-use Rattle.rules.specs.Tests.{first, within}
+use borrow.Author.Tests.{eqb-true}
+use borrow.Table.Steps.{cases as decide}
+use Rattle.rules.specs.Tests.{first}
 use Rattle.rules.specs.Answers.{numberOf}
 use Rattle.rules.specs.Rules.{openRefusals}
 use Rattle.rules.specs.Tables.{Table, opened, recordOf, Opens, Sound}
 use Rattle.rules.specs.declared.Terms.{Terms}
-use Rattle.rules.specs.declared.Call.{Call}
-use Rattle.rules.proofs.Choices.{decide, none-given, within-true, first-small}
-use Rattle.rules.proofs.Rows.{any-bounds, rows-formed, beyond, opened-sound}
-use Rattle.rules.proofs.Calls.{answer-small}
-use Rattle.rules.proofs.Keeping.{sound-called}
-use Rattle.store.specs.Schedules.{claimantIn, kindIn, sessionIn, decoded, entered}
+use Rattle.rules.proofs.Laws.{opens-exactly, opening-refuses, opened-is-sound, sound-in-range}
+use Rattle.store.specs.Schedules.{claimantIn, decoded, entered}
 use Rattle.store.specs.Trials.{termsOf, traced}
-use Rattle.store.specs.declared.Entry.{Entry}
-use Rattle.store.specs.declared.Entry.the-variants.{Made, Barred}
+use Rattle.store.proofs.Laws.{entry-keeps-sound, entry-answer-small}
 use Rattle.casetext.specs.Words.{ascii}
 use Rattle.casetext.specs.Layout.{entryOf, lineText}
 use Rattle.casetext.specs.Reading.{Said, reading}
@@ -49,35 +44,6 @@ refusal-short number line a b =
     simp length-append
     (omega (arith, numeral-short 2 number (omega arith) (omega arith), numeral-short 4 line (omega arith) (omega arith)))
 
--- What an entry leaves is in range.
-by-entry : (P : Entry → Type 0) (e : ℕ) → ((c : Call) → P (Made c)) → P (Barred 9) → P (decoded e)
-unfolding decoded
-by-entry P e made barred =
-    decide (eqb (kindIn e) 0)
-    (λ t. rw t (decide (eqb (sessionIn e) 0) (λ u. rw u (made _)) (λ u. rw u barred)))
-    (λ t. decide (eqb (kindIn e) 1) (λ u. rw (t, u) (made _))
-    (λ u. decide (eqb (kindIn e) 2)
-    (λ v. rw (t, u, v) (decide (eqb (sessionIn e) 0) (λ w. rw w (made _)) (λ w. rw w barred)))
-    (λ v. rw (t, u, v) barred)))
-
-module _ {n : ℕ} {k : Terms} where
-  entered-sound : {t : Table} (e : Entry) → Sound n k t → Sound n k (entered k e t .table)
-  unfolding entered
-  entered-sound (Made c) s = sound-called c s
-  entered-sound (Barred r) s = s
-
-  any-place : {t : Table} → Sound n k t → (j : ℕ) → recordOf t j .place ≤ 12
-  unfolding recordOf
-  any-place s zero = omega arith
-  any-place {t} s (suc j) =
-      decide (leb (suc j) n)
-      (λ e. rows-formed s (suc j) (omega arith) (leb-true (suc j) n e) .has-row)
-      (λ e. rw (beyond t (suc j) (omega (arith, leb-false (suc j) n e, s .length-is))) (omega arith))
-
-answer-range : (k : Terms) (e : ℕ) (t : Table) → numberOf (entered k (decoded e) t .answer) ≤ 41
-unfolding entered
-answer-range k e t = by-entry (λ x. numberOf (entered k x t .answer) ≤ 41) e (λ c. answer-small k c t) (omega arith)
-
 -- 75 bytes an entry
 entries-short : {n : ℕ} {k : Terms} → k .ceiling ≤ 4294967295 → (es : List ℕ) (number : ℕ) (t : Table) → Sound n k t → number + length es ≤ 2049
     → length (entriesText number es (traced k es t)) ≤ 75 * length es
@@ -85,23 +51,14 @@ unfolding entriesText traced
 entries-short ceiling [] number t s h = omega arith
 entries-short {n} {k} ceiling (e ∷ es) number t s h =
     let next = entered k (decoded e) t .table in
-    let sound : Sound n k next = entered-sound (decoded e) s in
+    let sound = entry-keeps-sound n k (decoded e) t s in
     let c = recordOf next (claimantIn e) in
-    let b = any-bounds sound (claimantIn e) in
-    let p = any-place sound (claimantIn e) in
+    let b = sound-in-range n k next sound (claimantIn e) in
     let one =
     entry-short number e (c .place) (c .session) (c .choosing) (c .token) (numberOf (entered k (decoded e) t .answer)) (traced k es next)
-    (omega arith) p (b .session) (b .choosing) (omega (arith, b .token)) (answer-range k e t) in
+    (omega arith) (b .place) (b .session) (b .choosing) (omega (arith, b .token)) (entry-answer-small k e t) in
     let rest = entries-short ceiling es (number + 1) next sound (omega arith) in
     rw length-append (omega (arith, one, rest))
-
--- Where opening refuses nothing, the table is sound from the start.
-opens : (n : ℕ) (k : Terms) → eqb (first (openRefusals n k)) 0 ≡ true → Opens n k
-opens n k e =
-    let g = none-given (openRefusals n k) (omega arith) e in
-    let w = within-true 1 64 n (not-false (within 1 64 n) (g .0)) in
-    let z = eqb-false (k .ceiling) 0 (g .1 .0) in
-    record { some-row = w .0; rows = w .1; ceiling-set = omega arith }
 
 run-short : {n : ℕ} {k : Terms} → k .ceiling ≤ 4294967295 → (es : List ℕ) → Opens n k → length es ≤ 2048
     → length (runText es (traced k es (opened n))) ≤ 153609
@@ -109,7 +66,7 @@ unfolding runText
 run-short {n} {k} ceiling es o h =
     rw length-append
     (omega
-    (arith, entries-short ceiling es 1 (opened n) (opened-sound n k o) (omega arith), end-short (length es) h))
+    (arith, entries-short ceiling es 1 (opened n) (opened-is-sound n k o) (omega arith), end-short (length es) h))
   where
     end-short : (n : ℕ) → n ≤ 2048 → length (lineText (ascii "end=") n) ≤ 9
     end-short n h = simp length-append (omega (arith, numeral-short 4 n (omega arith) (omega arith)))
@@ -130,9 +87,9 @@ unfolding saidText openedText
 said-short s (accepted n k es) e =
     let c = accepted-exactly s n k es .0 e in
     let r = first (openRefusals n (termsOf k)) in
-    let small = first-small (openRefusals n (termsOf k)) (omega arith) in
+    let small = opening-refuses n (termsOf k) in
     decide (eqb r 0)
-    (λ t. rw t (run-short {k = termsOf k} (c .written .second) es (opens n (termsOf k) t) (case-few c)))
+    (λ t. rw t (run-short {k = termsOf k} (c .written .second) es (opens-exactly n (termsOf k) .0 (eqb-true r 0 t)) (case-few c)))
     (λ t. rw t (refusal-short r r (omega arith) (omega arith)))
 said-short s (refused number line) e =
     let h = cause-small (refused-exactly s number line .0 e) in

@@ -8,6 +8,7 @@ pub mod Numerals
 pub mod Turns
 pub mod Texts
 pub mod Promises
+pub mod Readings
 pub mod Puts
 pub mod Runs
 pub mod Lengths

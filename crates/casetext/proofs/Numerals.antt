@@ -13,8 +13,8 @@ use borrow.Author.Tests.{lt-ltb, le-ltb, le-leb, ltb-true, ltb-false, ne-eqb, eq
 use Rattle.casetext.specs.Numerals.{numeral, numeralWithin}
 use Rattle.casetext.specs.Pieces.{isDigit, digitsFrom, numberAt}
 use Rattle.casetext.specs.declared.Found.the-variants.{Is}
-use Rattle.rules.proofs.Choices.{decide, true-not-false}
-use Rattle.casetext.proofs.Finding.{not-found}
+use borrow.Table.Steps.{cases as decide}
+use Rattle.casetext.proofs.Finding.{true-not-false, not-found}
 use Rattle.casetext.proofs.Words.{byte-inside}
 use Rattle.casetext.proofs.Digits.{is-digit}
 use Rattle.casetext.proofs.Stands.{Stands, stands-as, first-byte, byte-stands}

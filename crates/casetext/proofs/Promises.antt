@@ -2,17 +2,15 @@
 -- Assumes nothing.
 use Prim.Native.Nat.{ℕ, zero, suc, _+_, _-_, _≤_, _<_}
 use native.Mathlib.Omega.{arith}
+use mathlib.Core.Bool.{false}
 use mathlib.Core.Path.{_≡_, refl, sym, ap, _∙_}
 use mathlib.Core.List.{List, [], _∷_, _++_, append-assoc, append-nil, map}
 use lib.Dec.{leb, ltb}
 use lib.ListN.{length, getD, drop, length-drop, drop-of-length-le}
-use borrow.Author.Tests.{le-ltb, lt-ltb, ltb-true, ltb-false, leb-true, leb-false, eq-eqb, ne-eqb}
-use Rattle.rules.specs.declared.Call.{Call}
-use Rattle.rules.specs.declared.Call.the-variants.{Ask, Step, Leave}
-use Rattle.store.specs.Schedules.{kindIn, claimantIn, sessionIn, decoded}
-use Rattle.store.specs.declared.Entry.the-variants.{Made}
+use borrow.Author.Tests.{le-ltb, lt-ltb, ltb-true, ltb-false, leb-true, leb-false}
+use Rattle.store.specs.Schedules.{kindIn, claimantIn, sessionIn, isNine, callOf}
 use Rattle.casetext.specs.Words.{ascii}
-use Rattle.casetext.specs.Layout.{Turn, InRange, AllInRange, entry, entryOf, lineText, doText, doTexts, headText}
+use Rattle.casetext.specs.Layout.{Turn, InRange, AllInRange, entry, entryOf, callSaid, lineText, doText, doTexts, headText}
 use Rattle.casetext.specs.Layout.Turn.{ask, step, leave}
 use Rattle.casetext.specs.Lines.{lineAt, doLineAt}
 use Rattle.casetext.specs.Reading.{Said, before, doLines, fromLine2, fromLine3, reading}
@@ -22,7 +20,7 @@ use Rattle.casetext.specs.Promises.FirstBad.{line-1, line-2, line-3-on}
 use Rattle.casetext.specs.Promises.Cause.{long, broken, many}
 use Rattle.casetext.specs.declared.Found.{Found}
 use Rattle.casetext.specs.declared.Found.the-variants.{Is, Broken}
-use Rattle.rules.proofs.Choices.{decide}
+use borrow.Table.Steps.{cases as decide}
 use Rattle.casetext.proofs.Finding.{not-found}
 use Rattle.casetext.proofs.Gathering.{lines-end, lines-broken, lines-full}
 use Rattle.casetext.proofs.Stands.{Stands, stands-at, rest-at}
@@ -267,22 +265,17 @@ one-reading s n k n′ k′ ts ts′ w w′ =
     (cc, cc, one-schedule ts ts′ (w .ranged) (w′ .ranged) (cc))
 
 -- A turn's entry makes the call that it says.
-made : (t : Turn) → InRange t → (c : Call) × (decoded (entryOf t) ≡ Made c)
-unfolding InRange entryOf decoded
-made (ask w s) h =
-    let e = entry 1 w s in
-    let one : kindIn e ≡ 1 = omega arith in
-    (Ask (claimantIn e) (sessionIn e), rw (ne-eqb (kindIn e) 0 (omega arith), eq-eqb (kindIn e) 1 one))
-made (step w) h =
-    let e = entry 0 w 0 in
-    let zero : kindIn e ≡ 0 = omega arith in
-    let none : sessionIn e ≡ 0 = omega arith in
-    (Step (claimantIn e), rw (eq-eqb (kindIn e) 0 zero, eq-eqb (sessionIn e) 0 none))
-made (leave w) h =
-    let e = entry 2 w 0 in
-    let two : kindIn e ≡ 2 = omega arith in
-    let none : sessionIn e ≡ 0 = omega arith in
-    (Leave (claimantIn e), rw (ne-eqb (kindIn e) 0 (omega arith), ne-eqb (kindIn e) 1 (omega arith), eq-eqb (kindIn e) 2 two, eq-eqb (sessionIn e) 0 none))
+abbrev Makes : (entry : ℕ) → Turn → Type 0
+Makes e t = (isNine e ≡ false) × (callOf e ≡ callSaid t)
+
+parts : (kind w s : ℕ) → w ≤ 255 → s ≤ 65535 → let e = entry kind w s in (kindIn e ≡ kind) × (claimantIn e ≡ w) × (sessionIn e ≡ s)
+parts kind w s h g = (omega arith, omega arith, omega arith)
+
+made : (t : Turn) → InRange t → Makes (entryOf t) t
+unfolding InRange entryOf callSaid
+made (ask w s) h = let p = parts 1 w s (h .0) (h .1) in rw (p .0, p .1, p .2) (refl, refl)
+made (step w) h = let p = parts 0 w 0 h (omega arith) in rw (p .0, p .1, p .2) (refl, refl)
+made (leave w) h = let p = parts 2 w 0 h (omega arith) in rw (p .0, p .1, p .2) (refl, refl)
 
 all-first : (t : Turn) (ts : List Turn) → AllInRange (t ∷ ts) → InRange t
 unfolding AllInRange
@@ -293,11 +286,9 @@ unfolding AllInRange
 all-rest t ts r = r .1
 
 pub entries-made : EntriesMade
-entries-made s n k es e i h =
-    let c = accepted-exactly s n k es .0 e in
-    rw (c .says) (at (c .turns) (c .written .ranged) i (rw (c .says) at h))
+entries-made s n k es c i h = rw (c .says) (at (c .turns) (c .written .ranged) i (rw (c .says) at h))
   where
-    at : (ts : List Turn) → AllInRange ts → (i : ℕ) → i < length (map entryOf ts) → (c : Call) × (decoded (getD (map entryOf ts) i 0) ≡ Made c)
+    at : (ts : List Turn) → AllInRange ts → (i : ℕ) → i < length (map entryOf ts) → Makes (getD (map entryOf ts) i 0) (getD ts i (step 0))
     at [] r i h = absurd (omega arith)
     at (t ∷ ts) r zero h = made t (all-first t ts r)
     at (t ∷ ts) r (suc i) h = at ts (all-rest t ts r) i (omega arith)

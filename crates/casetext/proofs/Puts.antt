@@ -13,7 +13,7 @@ use borrow.Author.Tests.{lt-ltb, ltb-true, ltb-false}
 use Rattle.io.specs.Digits.{digits, Fewest}
 use Rattle.casetext.specs.Numerals.{numeral}
 use Rattle.casetext.specs.Writing.{put, Room, Wrote}
-use Rattle.rules.proofs.Choices.{decide}
+use borrow.Table.Steps.{cases as decide}
 use Rattle.casetext.proofs.Numerals.{numeral-one, numeral-more}
 
 module _ (held : List ℕ) (at : ℕ) (w : List ℕ) (fits : at + length w ≤ length held) where

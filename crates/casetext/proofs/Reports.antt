@@ -8,11 +8,12 @@ use mathlib.Core.List.{List, [], _∷_, _++_}
 use lib.Dec.{eqb, ltb}
 use lib.ListN.{length, take, drop}
 use borrow.Author.Tests.{le-ltb, ltb-false}
+use borrow.Table.Steps.{cases as decide}
 use Rattle.rules.specs.Tests.{first}
 use Rattle.rules.specs.Rules.{openRefusals}
 use Rattle.rules.specs.Tables.{Table, opened}
 use Rattle.rules.specs.declared.Terms.{Terms}
-use Rattle.rules.proofs.Choices.{decide, first-small}
+use Rattle.rules.proofs.Laws.{opening-refuses}
 use Rattle.store.specs.Schedules.{decoded, entered}
 use Rattle.store.specs.Trials.{termsOf, traced, trialRefusal, trialLeft, trialOutcome}
 use Rattle.store.specs.declared.Outcome.the-variants.{Done, Refused as Opening-refused}
@@ -54,7 +55,7 @@ module _ (n k : ℕ) (es held : List ℕ) (room : 5 * length es ≤ length held)
   unfolding trialOutcome saidText openedText
   refused-text {number} e =
       let r = first (openRefusals n (termsOf k)) in
-      let small = first-small (openRefusals n (termsOf k)) (omega arith) in
+      let small = opening-refuses n (termsOf k) in
       decide (eqb r 0)
       (λ t.
       let f : Done ≡ Opening-refused number = rw (same-refusal, t) at e in

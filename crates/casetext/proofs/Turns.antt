@@ -16,7 +16,7 @@ use Rattle.casetext.specs.Pieces.{begins, numberAt, fieldAt}
 use Rattle.casetext.specs.Lines.{ended, lineAt, ofKind, calledAt, withSession, askedBy, thenSession, askAt, turnAt, doLineAt}
 use Rattle.casetext.specs.declared.Found.{Found}
 use Rattle.casetext.specs.declared.Found.the-variants.{Is, Broken}
-use Rattle.rules.proofs.Choices.{decide}
+use borrow.Table.Steps.{cases as decide}
 use Rattle.casetext.proofs.Finding.{not-found}
 use Rattle.casetext.proofs.Digits.{number-most, field-most}
 use Rattle.casetext.proofs.Stands.{Stands, stands-both, stands-left, stands-right, word-stands, word-found, first-byte, byte-stands}

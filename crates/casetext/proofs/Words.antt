@@ -10,8 +10,9 @@ use lib.Dec.{eqb}
 use lib.ListN.{length, getD, drop, drop-of-length-le, length-append, length-drop}
 use lib.Seq.{drop-cons}
 use borrow.Author.Tests.{eq-eqb, ne-eqb, eqb-true}
-use Rattle.rules.proofs.Choices.{decide, true-not-false}
+use borrow.Table.Steps.{cases as decide}
 use Rattle.casetext.specs.Pieces.{begins}
+use Rattle.casetext.proofs.Finding.{true-not-false}
 
 module _ (w s : List ℕ) (i at : ℕ) (more : i < length w) where
   -- nothing is left of the text

@@ -2,6 +2,8 @@
 use Prim.Native.Nat.{ℕ, _+_, _*_, _≤_}
 use mathlib.Core.Path.{_≡_}
 use mathlib.Core.List.{List, [], _∷_, _++_}
+use Rattle.rules.specs.declared.Call.{Call}
+use Rattle.rules.specs.declared.Call.the-variants.{Ask, Step, Leave}
 use Rattle.casetext.specs.Words.{ascii}
 use Rattle.casetext.specs.Numerals.{numeral}
 
@@ -28,6 +30,12 @@ unfoldable pub entryOf : Turn → ℕ
 entryOf (ask who session) = entry 1 who session
 entryOf (step who) = entry 0 who 0
 entryOf (leave who) = entry 2 who 0
+
+-- The call that a do line says.
+unfoldable pub callSaid : Turn → Call
+callSaid (ask who session) = Ask who session
+callSaid (step who) = Step who
+callSaid (leave who) = Leave who
 
 -- A word and a number.
 abbrev pub fieldText : (word : List ℕ) → (n : ℕ) → List ℕ

@@ -4,6 +4,7 @@ pub mod Layout
 pub mod Pieces
 pub mod Lines
 pub mod Reading
+pub mod Answers
 pub mod Writing
 pub mod Report
 pub mod Promises

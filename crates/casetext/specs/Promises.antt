@@ -1,15 +1,16 @@
 -- What is promised of the reader and of the report: the texts accepted and refused are exactly those that 01 names.
 use Prim.Native.Nat.{ℕ, _+_, _≤_, _<_}
+use mathlib.Core.Bool.{false}
 use mathlib.Core.Path.{_≡_}
-use mathlib.Core.Logic.{_↔_}
-use mathlib.Core.List.{List, [], _++_, map}
-use lib.ListN.{length, getD}
-use Rattle.rules.specs.declared.Call.{Call}
-use Rattle.store.specs.Schedules.{decoded}
-use Rattle.store.specs.declared.Entry.the-variants.{Made}
+use mathlib.Core.Logic.{_≢_, _↔_}
+use mathlib.Core.List.{List, [], _∷_, _++_, map}
+use lib.ListN.{length, getD, drop}
+use Rattle.store.specs.Schedules.{isNine, callOf}
 use Rattle.casetext.specs.Words.{ascii}
-use Rattle.casetext.specs.Layout.{Turn, InRange, AllInRange, entryOf, lineText, doText, caseText, Writes}
-use Rattle.casetext.specs.Reading.{reading}
+use Rattle.casetext.specs.Layout.{Turn, InRange, AllInRange, entryOf, callSaid, lineText, doText, caseText, Writes}
+use Rattle.casetext.specs.Layout.Turn.{step}
+use Rattle.casetext.specs.Reading.{reading, readInto, told, rowAfter}
+use Rattle.casetext.specs.Answers.{readingNumber, readingLine, readingValues}
 use Rattle.casetext.specs.Report.{printed, reportBytes}
 use Rattle.casetext.specs.Reading.Said.{accepted, refused}
 
@@ -73,11 +74,35 @@ pub data Cause (s : List ℕ) (number line : ℕ) : Type 0 where
 abbrev pub RefusedExactly : Type 0
 RefusedExactly = (s : List ℕ) (number line : ℕ) → reading s ≡ refused number line ↔ Cause s number line
 
--- Every entry given back makes a call: it has no kind and no session field that refusal 9 names.
+-- Why the reader refuses a text so, with this row lent for its entries: 10 comes before all that is wrong with the text.
+pub data ReaderCause (row s : List ℕ) (number line : ℕ) : Type 0 where
+  short : number ≡ 10 → line ≡ 0 → length row < 2048 → ReaderCause row s number line
+  of-text : 2048 ≤ length row → Cause s number line → ReaderCause row s number line
+
+-- The reader refuses with a number and a line exactly for that cause ..
+abbrev pub ReaderRefuses : Type 0
+ReaderRefuses =
+    (row s : List ℕ) (number line : ℕ) → 1 ≤ number
+    → let r = told (readInto row s) in
+    (readingNumber r ≡ number) × (readingLine r ≡ line) ↔ ReaderCause row s number line
+
+-- .. and a refused reading leaves the lent row as it was.
+abbrev pub RefusedReading : Type 0
+RefusedReading = (row s : List ℕ) → let said = readInto row s in readingNumber (told said) ≢ 0 → rowAfter said row ≡ row
+
+-- An accepted one returns the two numbers and the count of entries, which are the row's first numbers then; later ones stay.
+abbrev pub AcceptedReading : Type 0
+AcceptedReading =
+    (row s : List ℕ) (claimants ceiling : ℕ) (entries : List ℕ) → 2048 ≤ length row → IsCase s claimants ceiling entries
+    → let said = readInto row s in
+    (readingNumber (told said) ≡ 0) × (readingValues (told said) ≡ claimants ∷ ceiling ∷ length entries ∷ [])
+    × (rowAfter said row ≡ entries ++ drop (length entries) row)
+
+-- Every entry given back makes the very call that its do line says: refusal 9 names none of them.
 abbrev pub EntriesMade : Type 0
 EntriesMade =
-    (s : List ℕ) (n k : ℕ) (entries : List ℕ) → reading s ≡ accepted n k entries
-    → (i : ℕ) → i < length entries → (c : Call) × (decoded (getD entries i 0) ≡ Made c)
+    (s : List ℕ) (n k : ℕ) (entries : List ℕ) (c : IsCase s n k entries) (i : ℕ) → i < length entries
+    → let e = getD entries i 0 in (isNine e ≡ false) × (callOf e ≡ callSaid (getD (c .turns) i (step 0)))
 
 -- No report is longer than the row that every report fits.
 abbrev pub ReportFits : Type 0

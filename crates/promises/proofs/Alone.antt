@@ -87,9 +87,7 @@ module _ (n : ℕ) (k : Terms) (i m : ℕ) (at : ℕ → Claimant) (i-low : 1 �
   nearer (walk (stays (sees-conflict u))) f e z g = absurd (g .not-seven refl)
   nearer (walk (stays {o} (halts u))) f e z g = omega (arith, own-only o u)
   nearer (walk (stays (stays-halted u))) f e z g =
-      absurd
-      (u .differ
-      (ap (λ (y : ℕ). at y .session) (g .own-row refl) ∙ ap (λ (d : Claimant). d .session) e ∙ f .fields .session-fits))
+      absurd (u .differ (omega (arith, ap (λ (y : ℕ). at y .session) (g .own-row refl), ap (λ (d : Claimant). d .session) e, f .fields .session-fits)))
   nearer (walk (clears (no-chooser u))) f e z g = omega arith
   nearer (walk (clears (no-conflict u))) f e z g = absurd (g .not-seven refl)
   nearer (walk (passes {o} (by-token u) (next-row v))) f e z g =

@@ -14,22 +14,15 @@ use Rattle.rules.specs.declared.Terms.{Terms}
 use Rattle.rules.specs.declared.Call.{Call}
 use Rattle.rules.specs.declared.Call.the-variants.{Ask, Step, Leave}
 use Rattle.rules.proofs.Choices.{decide}
-use Rattle.rules.proofs.Moves.{Move, Edged, edged, chosen, walked}
-use Rattle.rules.proofs.Moves.Move.{edge, choice, walk}
+use Rattle.rules.proofs.Moves.{Edged}
 use Rattle.rules.proofs.Rows.{has-number}
 use Rattle.rules.proofs.Calls.{Begins, accepted}
 use Rattle.rules.proofs.Keeping.{sound-called}
-use Rattle.promises.specs.Sequences.{placeOf, count, stepOf, askOf}
+use Rattle.promises.specs.Sequences.{placeOf, count, stepOf, asks}
 use Rattle.promises.specs.Waiting.{BackToRest}
-use Rattle.promises.proofs.Steps.{unmoved}
+use Rattle.promises.proofs.Steps.{unmoved, last-moves, not-asked}
 
--- Its moves from the inside on, the leave first.
-last-moves : {n : ℕ} {k : Terms} {i : ℕ} {at : ℕ → Claimant} {c c′ : Claimant} → Move n k i at c c′ → 10 ≤ c .place → Edged c c′
-last-moves (edge y) h = edged y
-last-moves (choice y) h = absurd (omega (arith, chosen y .from))
-last-moves (walk y) h = absurd (omega (arith, walked y .from))
-
--- A call of its own that begins there makes one of them.
+-- A call of its own that begins inside, or after it, makes one of its last moves.
 moved-on : {n : ℕ} {k : Terms} {t : Table} → Sound n k t → (c : Call) → 10 ≤ placeOf t (caller c) → Begins c (recordOf t (caller c))
     → Edged (recordOf t (caller c)) (recordOf (called k c t .table) (caller c))
 moved-on {t} s c p b =
@@ -56,14 +49,14 @@ module _ (n : ℕ) (k : Terms) (i : ℕ) where
     place : placeOf (called k c t .table) i ≡ p′
     steps : (x : ℕ) → m ≤ pick (stepOf i c t (called k c t .table)) 1 0 + x ↔ m′ ≤ x
 
-  passed-by : {m p : ℕ} (c : Call) (t : Table) → Closing m p → placeOf t i ≡ p → (caller c ≡ i → ¬ (Begins c (recordOf t i)))
+  passed-by : {m p : ℕ} (c : Call) (t : Table) → Closing m p → placeOf t i ≡ p → recordOf (called k c t .table) i ≡ recordOf t i
       → stepOf i c t (called k c t .table) ≡ false → Left m c t
   passed-by {m} {p} c t g e u f =
       record {
         m′ = m;
         p′ = p;
         closing = g;
-        place = ap (λ (d : Claimant). d .place) (unmoved k c t i u) ∙ e;
+        place = ap (λ (d : Claimant). d .place) u ∙ e;
         steps = λ x. rw f (omega arith);
       }
 
@@ -95,19 +88,20 @@ module _ (n : ℕ) (k : Terms) (i : ℕ) where
       }
 
   next-call : {m p : ℕ} (c : Call) (cs : List Call) (t : Table) → Sound n k t → Closing m p → placeOf t i ≡ p
-      → count (askOf i) k (c ∷ cs) t ≡ 0 → Left m c t
-  unfolding count askOf stepOf caller
+      → count (asks i) k (c ∷ cs) t ≡ 0 → Left m c t
+  unfolding count stepOf caller
   next-call (Ask w v) cs t s g e h =
-      decide (eqb w i)
+      decide (asks i (Ask w v) t (called k (Ask w v) t .table))
       (λ q. absurd (omega (arith, rw q at h)))
-      (λ q. passed-by (Ask w v) t g e (λ r b. eqb-false w i q r) refl)
-  next-call (Leave w) cs t s g e h = passed-by (Leave w) t g e (λ r b. closing-place g .1 (sym e ∙ b)) refl
+      (λ q. passed-by (Ask w v) t g e (not-asked k t i w v q) refl)
+  next-call (Leave w) cs t s g e h =
+      passed-by (Leave w) t g e (unmoved k (Leave w) t i (λ r b. closing-place g .1 (sym e ∙ b))) refl
   next-call (Step w) cs t s g e h =
       decide (eqb w i)
       (λ q. rw (eqb-true w i q) (own-step t s g e))
-      (λ q. passed-by (Step w) t g e (λ r b. eqb-false w i q r) q)
+      (λ q. passed-by (Step w) t g e (unmoved k (Step w) t i (λ r b. eqb-false w i q r)) q)
 
-  rests : {m p : ℕ} (cs : List Call) (t : Table) → Sound n k t → Closing m p → placeOf t i ≡ p → count (askOf i) k cs t ≡ 0
+  rests : {m p : ℕ} (cs : List Call) (t : Table) → Sound n k t → Closing m p → placeOf t i ≡ p → count (asks i) k cs t ≡ 0
       → placeOf (after k cs t) i ≡ 0 ↔ m ≤ count (stepOf i) k cs t
   unfolding after count
   rests [] t s g e h = rw e (closing-place g .0)

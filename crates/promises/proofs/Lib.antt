@@ -5,8 +5,12 @@ pub mod Exclusion
 pub mod Lateness
 pub mod Steps
 pub mod Overtaking
+pub mod Refusals
 pub mod Runs
+pub mod Traces
+pub mod Queueing
 pub mod Computing
+pub mod Always
 pub mod Witnesses
 pub mod OneRegister
 pub mod Waiting

@@ -24,10 +24,10 @@ use Rattle.promises.proofs.Lateness.{Late, Lags, apart, lags-next}
 use Rattle.promises.proofs.Steps.{unmoved, at-once, counted}
 
 -- What it says that a call overtakes: a claimant's Session is its want, waiting and inside.
-record Overtakes (i j : ℕ) (t t′ : Table) : Type 0 where
-  outside : placeOf t j ≢ 10
-  inside : placeOf t′ j ≡ 10
-  odds : Conflict (recordOf t′ i .session) (recordOf t′ j .session)
+pub record Overtakes (i j : ℕ) (t t′ : Table) : Type 0 where
+  pub outside : placeOf t j ≢ 10
+  pub inside : placeOf t′ j ≡ 10
+  pub odds : Conflict (recordOf t′ i .session) (recordOf t′ j .session)
 
 does-overtake : (i j : ℕ) (c : Call) (t t′ : Table) → overtakes i j c t t′ ≡ true → Overtakes i j t t′
 unfolding overtakes
@@ -53,7 +53,7 @@ module _ (n : ℕ) (k : Terms) (i j : ℕ) where
   abbrev LateIn : Table → Type 0
   LateIn t = Late i (recordOf t i) (recordOf t j)
 
-  lags-called : (c : Call) (t : Table) → Sound n k t → WaitingIn t → WaitingIn (called k c t .table) → LateIn t
+  pub lags-called : (c : Call) (t : Table) → Sound n k t → WaitingIn t → WaitingIn (called k c t .table) → LateIn t
       → Lags i (recordOf (called k c t .table) i) (recordOf t j) (recordOf (called k c t .table) j)
   lags-called c t s p q f =
       let t′ = called k c t .table in
@@ -65,19 +65,20 @@ module _ (n : ℕ) (k : Terms) (i j : ℕ) where
       (λ e.
       lags-next i j (h .0) (omega (arith, h .1, s .length-is)) (eqb-false i j e) (rw (s .length-is) at (next k c t)) p q f)
 
+  -- One that is late does not overtake.
+  pub stays-behind : (c : Call) (t : Table) → Sound n k t → WaitingIn t → WaitingIn (called k c t .table) → LateIn t
+      → ¬ (Overtakes i j t (called k c t .table))
+  stays-behind c t s p q f o =
+      let s′ = sound-called c s in
+      let l = o .inside in
+      lags-called c t s p q f .outside (o .outside) (o .inside)
+      (rw (session-is-want i s′ (omega arith) (omega arith), session-is-want j s′ (omega arith) (omega arith)) at (o .odds))
+
   not-overtaken : (c : Call) (t : Table) → Sound n k t → WaitingIn t → WaitingIn (called k c t .table) → LateIn t
       → overtakes i j c t (called k c t .table) ≡ false
   not-overtaken c t s p q f =
       let t′ = called k c t .table in
-      decide (overtakes i j c t t′)
-      (λ e.
-      let o = does-overtake i j c t t′ e in
-      let s′ = sound-called c s in
-      let l = o .inside in
-      absurd
-      (lags-called c t s p q f .outside (o .outside) (o .inside)
-      (rw (session-is-want i s′ (omega arith) (omega arith), session-is-want j s′ (omega arith) (omega arith)) at (o .odds))))
-      (λ e. e)
+      decide (overtakes i j c t t′) (λ e. absurd (stays-behind c t s p q f (does-overtake i j c t t′ e))) (λ e. e)
 
   late-never : (cs : List Call) (t : Table) → Sound n k t → Throughout WaitingIn k cs t → LateIn t → count (overtakes i j) k cs t ≡ 0
   unfolding count
@@ -98,7 +99,7 @@ module _ (n : ℕ) (k : Terms) (i j : ℕ) where
       rw e (omega (arith, late-never cs t′ (sound-called c s) (h .1) (λ x. apart (omega arith)))))
       (λ e. rw e (omega (arith, once cs t′ (sound-called c s) (h .1))))
 
-  -- One that is late does not overtake at any later call.
+  -- Nor at any later call.
   not-later : (first : List Call) (c : Call) (rest : List Call) (t : Table) → Sound n k t → Throughout WaitingIn k (first ++ c ∷ rest) t
       → overtakes i j c (after k first t) (called k c (after k first t) .table) ≡ true → ¬ (LateIn t)
   not-later first c rest t s h e f =

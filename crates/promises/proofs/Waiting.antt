@@ -26,11 +26,11 @@ use Rattle.rules.proofs.Moves.Clears.{no-chooser, no-conflict}
 use Rattle.rules.proofs.Moves.Passes.{by-token, by-session}
 use Rattle.rules.proofs.Moves.Onward.{next-row, last-row}
 use Rattle.rules.proofs.Rows.{has-number, rows-formed}
-use Rattle.rules.proofs.Calls.{Begins, accepted}
+use Rattle.rules.proofs.Calls.{accepted}
 use Rattle.rules.proofs.Keeping.{sound-called}
-use Rattle.promises.specs.Sequences.{placeOf, count, Throughout, stepOf, leaveOf}
+use Rattle.promises.specs.Sequences.{placeOf, count, Throughout, stepOf, leaves as leaves-in}
 use Rattle.promises.specs.Waiting.{mostSteps, Unopposed, turnsAway, InsideSoon}
-use Rattle.promises.proofs.Steps.{unmoved}
+use Rattle.promises.proofs.Steps.{unmoved, not-left}
 
 -- Steps to the inside, by place from 0 on. A row takes four at the most and the own row three: the last term is 1 where that is behind.
 abbrev ahead : (n i o : ℕ) → List ℕ
@@ -101,7 +101,7 @@ module _ (n : ℕ) (k : Terms) (i : ℕ) (i-low : 1 ≤ i) (i-high : i ≤ n) wh
     nearing : Nearing n i m (recordOf t i)
     unopposed : Throughout (Unopposed i) k cs t
     not-turned-away : count (turnsAway i) k cs t ≡ 0
-    no-leave : count (leaveOf i) k cs t ≡ 0
+    no-leave : count (leaves-in i) k cs t ≡ 0
     steps : m ≤ count (stepOf i) k cs t
 
   come : (m m′ : ℕ) (c : Call) (cs : List Call) (t : Table) → Coming m (c ∷ cs) t → Nearing n i m′ (recordOf (called k c t .table) i)
@@ -118,11 +118,10 @@ module _ (n : ℕ) (k : Terms) (i : ℕ) (i-low : 1 ≤ i) (i-high : i ≤ n) wh
       }
 
   -- A call that leaves its record alone, and is none of its steps.
-  passed-by : (m : ℕ) (c : Call) (cs : List Call) (t : Table) → Coming m (c ∷ cs) t → (caller c ≡ i → ¬ (Begins c (recordOf t i)))
+  passed-by : (m : ℕ) (c : Call) (cs : List Call) (t : Table) → Coming m (c ∷ cs) t → recordOf (called k c t .table) i ≡ recordOf t i
       → stepOf i c t (called k c t .table) ≡ false → (m′ : ℕ) × Coming m′ cs (called k c t .table)
   unfolding count
-  passed-by m c cs t h u g =
-      (m, come m m c cs t h (rw (unmoved k c t i u) (h .nearing)) (omega (arith, rw g at (h .steps))))
+  passed-by m c cs t h u g = (m, come m m c cs t h (rw u (h .nearing)) (omega (arith, rw g at (h .steps))))
 
   -- A step of its own: it is inside and stays there, or it comes nearer.
   stays-inside : (m : ℕ) (cs : List Call) (t : Table) → Coming m (Step i ∷ cs) t → placeOf t i ≡ 10 → Coming 0 cs (called k (Step i) t .table)
@@ -164,16 +163,16 @@ module _ (n : ℕ) (k : Terms) (i : ℕ) (i-low : 1 ≤ i) (i-high : i ≤ n) wh
       (λ e. (m, comes-nearer m cs t h (eqb-false (placeOf t i) 10 e)))
 
   advance : (m : ℕ) (c : Call) (cs : List Call) (t : Table) → Coming m (c ∷ cs) t → (m′ : ℕ) × Coming m′ cs (called k c t .table)
-  unfolding count leaveOf stepOf caller
-  advance m (Ask v s) cs t h = passed-by m (Ask v s) cs t h (λ q b. omega (arith, h .nearing .low, b .0)) refl
+  unfolding count stepOf caller
+  advance m (Ask v s) cs t h = passed-by m (Ask v s) cs t h (unmoved k (Ask v s) t i (λ q b. omega (arith, h .nearing .low, b .0))) refl
   advance m (Leave v) cs t h =
-      decide (eqb v i)
+      decide (leaves-in i (Leave v) t (called k (Leave v) t .table))
       (λ e. absurd (omega (arith, rw e at (h .no-leave))))
-      (λ e. passed-by m (Leave v) cs t h (λ q b. eqb-false v i e q) refl)
+      (λ e. passed-by m (Leave v) cs t h (not-left k t i v e) refl)
   advance m (Step v) cs t h =
       decide (eqb v i)
       (λ e. rw (eqb-true v i e) (own-step m cs t (rw (eqb-true v i e) at h)))
-      (λ e. passed-by m (Step v) cs t h (λ q b. eqb-false v i e q) e)
+      (λ e. passed-by m (Step v) cs t h (unmoved k (Step v) t i (λ q b. eqb-false v i e q)) e)
 
   inside-by : (m : ℕ) (cs : List Call) (t : Table) → Coming m cs t → placeOf (after k cs t) i ≡ 10
   unfolding count after

@@ -1,75 +1,48 @@
--- Sequences in which claimants are inside together, overtake once, and stay behind.
-use mathlib.Core.Path.{_≡_, refl}
-use mathlib.Core.Bool.{Bool, true, false, not}
-use mathlib.Core.List.{List, [], _∷_, _++_}
-use mathlib.Core.Logic.{_≢_}
-use Prim.Native.Nat.{ℕ, zero, suc, _+_, _≤_}
+-- Calls that are refused, and sequences in which claimants are inside together, overtake once, and stay behind.
+use mathlib.Core.Path.{refl}
+use mathlib.Core.List.{[], _∷_, _++_}
+use Prim.Native.Nat.{_≤_}
 use native.Mathlib.Omega.{arith}
-use lib.Dec.{eqb}
-use lib.ListN.{getD, replicate}
-use borrow.Author.Tests.{ne-eqb, not-true}
-use Rattle.rules.specs.Tests.{_and_, _or_, within}
-use Rattle.rules.specs.Records.{blank}
-use Rattle.rules.specs.Rules.{conflict}
-use Rattle.rules.specs.Tables.{Table, opened, recordOf, called, after}
+use lib.ListN.{replicate}
+use Rattle.rules.specs.Records.{claimant}
+use Rattle.rules.specs.Tables.{opened, recordOf, after}
 use Rattle.rules.specs.declared.Terms.{Terms}
-use Rattle.rules.specs.declared.Call.{Call}
 use Rattle.rules.specs.declared.Call.the-variants.{Ask, Step, Leave}
-use Rattle.rules.proofs.Choices.{both, within-true}
+use Rattle.rules.proofs.Shapes.{_&_, each}
 use Rattle.rules.proofs.Rows.{opened-sound}
 use Rattle.rules.proofs.Keeping.{sound-after}
-use Rattle.promises.specs.Sequences.{placeOf, count, Throughout, stepOf, leaveOf}
-use Rattle.promises.specs.Fairness.{Waits, doorwayEnded, overtakes, signs}
+use Rattle.store.specs.Schedules.{decoded, entered, ran, answered}
+use Rattle.store.specs.Runs.{runRefusal, running}
+use Rattle.promises.specs.Sequences.{placeOf, count, stepOf, leaves}
+use Rattle.promises.specs.Fairness.{overtakes, signs}
+use Rattle.promises.specs.Runs.{FreshRun, tableAt}
+use Rattle.promises.specs.Situations.{ask, step, steps}
 use Rattle.promises.specs.Waiting.{Unopposed, turnsAway}
-use Rattle.promises.specs.Witnesses.{SomeTogether, SomeOvertaken, SomeBehind, SomeFree}
+use Rattle.promises.specs.Witnesses.{SomeCall, SomeRefused, SomeTogether, SomeOvertaken, SomeRunOvertaken, SomeBehind, SomeFree}
 use Rattle.promises.proofs.Computing.{computing}
-
--- What holds all the while, by a test that computes.
-always : (Table → Bool) → Terms → List Call → Table → Bool
-always test k [] t = test t
-always test k (c ∷ cs) t = test t and always test k cs (called k c t .table)
-
-throughout : (P : Table → Type 0) (test : Table → Bool) → ((t : Table) → test t ≡ true → P t) → (k : Terms) (cs : List Call) (t : Table)
-    → always test k cs t ≡ true → Throughout P k cs t
-unfolding always
-throughout P test h k [] t e = h t e
-throughout P test h k (c ∷ cs) t e =
-    let t′ = called k c t .table in
-    let g = both (test t) (always test k cs t′) e in
-    (h t (g .0), throughout P test h k cs t′ (g .1))
-
-waiting : (n : ℕ) (k : Terms) (earlier later : List Call) (i : ℕ) → placeOf (after k earlier (opened n)) i ≡ 5
-    → always (λ t. within 6 9 (placeOf t i)) k later (doorwayEnded n k earlier i) ≡ true → Waits n k earlier later i
-waiting n k earlier later i p e =
-    record {
-      lowering = p;
-      waiting =
-          throughout (λ t. (6 ≤ placeOf t i) × (placeOf t i ≤ 9)) (λ t. within 6 9 (placeOf t i)) (λ t. within-true 6 9 (placeOf t i)) k later
-          (doorwayEnded n k earlier i) e;
-    }
-
--- No row from number j on, but for claimant i's, has a Session that conflicts with w.
-calm : (i w j : ℕ) → Table → Bool
-calm i w j [] = true
-calm i w j (c ∷ t) = (eqb j i or not (conflict (c .session) w)) and calm i w (suc j) t
-
-calm-row : (i w j : ℕ) (t : Table) (l : ℕ) → calm i w j t ≡ true → j + l ≢ i → conflict (getD t l blank .session) w ≡ false
-unfolding calm conflict
-calm-row i w j [] l e h = refl
-calm-row i w j (c ∷ t) zero e h =
-    let f = both (eqb j i or not (conflict (c .session) w)) (calm i w (suc j) t) e in
-    not-true (conflict (c .session) w) (rw (ne-eqb j i (omega arith)) at (f .0))
-calm-row i w j (c ∷ t) (suc l) e h =
-    let f = both (eqb j i or not (conflict (c .session) w)) (calm i w (suc j) t) e in
-    calm-row i w (suc j) t l (f .1) (omega arith)
-
-unopposed : (i : ℕ) (t : Table) → calm i (recordOf t i .want) 1 t ≡ true → Unopposed i t
-unfolding recordOf conflict
-unopposed i t e zero h = refl
-unopposed i t e (suc j) h = calm-row i (recordOf t i .want) 1 t j e (omega arith)
+use Rattle.promises.proofs.Always.{always, throughout, waiting, calm, unopposed}
 
 k : Terms
 k = record { ceiling = 9 }
+
+-- A call for each of 1 to 8, in their order, an entry and a run.
+pub some-refused : SomeRefused
+unfolding SomeRefused computing decoded entered runRefusal running k
+some-refused = (
+  λ r a b.
+      each SomeCall 1 8
+      ((k, Step 1, [], refl) &
+      (record { ceiling = 0 }, Step 1, opened 1, refl) &
+      (k, Step 1, claimant 13 0 0 0 0 0 0 ∷ [], refl) &
+      (k, Step 2, opened 1, refl) &
+      (k, Ask 1 0, opened 1, refl) &
+      (k, Ask 1 7, claimant 1 0 0 0 7 0 0 ∷ [], refl) &
+      (k, Leave 1, opened 1, refl) &
+      (k, Step 1, opened 1, refl) &
+      tt) r a (omega arith),
+  (k, 50397184, opened 1, refl),
+  (k, step 1 ∷ [], [], opened 1, refl),
+)
 
 -- 1 goes inside, and 2 after it.
 pub some-together : SomeTogether
@@ -88,6 +61,35 @@ some-overtaken =
     let earlier = Ask 1 7 ∷ Ask 2 8 ∷ replicate 6 (Step 1) ++ replicate 5 (Step 2) in
     let later = replicate 5 (Step 1) ++ Leave 1 ∷ Step 1 ∷ Step 1 ∷ Ask 1 7 ∷ replicate 20 (Step 1) in
     (2, k, earlier, later, 2, 1, record { opens = omega arith; waits = waiting 2 k earlier later 2 refl refl; once = refl })
+
+-- The same as a run, as far as the entry that takes 1 inside.
+pub some-run-overtaken : SomeRunOvertaken
+unfolding SomeRunOvertaken computing decoded entered ran answered runRefusal running tableAt k
+some-run-overtaken =
+    let run : FreshRun =
+    record {
+      claimants = 2;
+      terms = k;
+      schedule = ask 1 7 ∷ ask 2 8 ∷ steps 6 1 ++ steps 6 2 ++ steps 5 1;
+      row = replicate 19 0;
+      opens = omega arith;
+      room = omega arith;
+    }
+    in (
+      run,
+      13,
+      19,
+      2,
+      1,
+      18,
+      record {
+        waits = record {
+          lowering = record { starts = refl; ends = refl };
+          waiting = λ q a b. each (λ q. (6 ≤ placeOf (tableAt run q) 2) × (placeOf (tableAt run q) 2 ≤ 9)) 14 6 (omega arith) q a (omega arith);
+        };
+        overtakes = record { later = omega arith; meanwhile = omega arith; outside = omega arith; inside = refl; odds = refl };
+      },
+    )
 
 -- 1 takes token 1 and waits; 2 signs, and has no luck for 30 steps; 1 goes inside, and when it has left so does 2.
 pub some-behind : SomeBehind
@@ -118,14 +120,16 @@ some-behind =
       },
     )
 
--- 1 and 2 ask for one session, and take turns.
+-- 1 and 2 ask for one session, and take turns; 1 begins with an ask and a leave that are not due.
 pub some-free : SomeFree
-unfolding SomeFree computing k always calm count turnsAway leaveOf stepOf
+unfolding SomeFree computing k always calm count turnsAway leaves stepOf
 some-free =
     let t = after k (Ask 1 7 ∷ Ask 2 7 ∷ []) (opened 2) in
-    let calls = replicate 7 (Step 1) ++ replicate 9 (Step 2) ++ replicate 6 (Step 1) in (
+    let calls = replicate 7 (Step 1) ++ replicate 9 (Step 2) ++ replicate 6 (Step 1) in
+    let all = Ask 1 7 ∷ Leave 1 ∷ calls in (
       2,
       k,
+      7,
       calls,
       t,
       1,
@@ -135,11 +139,13 @@ some-free =
         unhindered =
             record {
               asked = refl;
-              nobody-conflicts = throughout (Unopposed 1) (λ t. calm 1 (recordOf t 1 .want) 1 t) (unopposed 1) k calls t refl;
+              nobody-conflicts = throughout (Unopposed 1) (λ t. calm 1 (recordOf t 1 .want) 1 t) (unopposed 1) k all t refl;
               not-turned-away = refl;
               no-leave = refl;
               steps = omega arith;
             };
+        ask-refused = refl;
+        leave-refused = refl;
         not-alone = omega arith;
         apart = omega arith;
       },

@@ -1,4 +1,5 @@
 pub mod Sequences
+pub mod Refusals
 pub mod Fairness
 pub mod Runs
 pub mod OneRegister

@@ -3,7 +3,7 @@ use Prim.Native.Nat.{ℕ, _+_}
 use mathlib.Core.Bool.{Bool, false}
 use mathlib.Core.List.{List, [], _∷_}
 use lib.Dec.{eqb}
-use Rattle.rules.specs.Tests.{pick}
+use Rattle.rules.specs.Tests.{pick, _and_}
 use Rattle.rules.specs.Rules.{conflict}
 use Rattle.rules.specs.Tables.{Table, recordOf, called}
 use Rattle.rules.specs.declared.Terms.{Terms}
@@ -32,18 +32,15 @@ abbrev pub Throughout : (Table → Type 0) → Terms → List Call → Table →
 Throughout P k [] t = P t
 Throughout P k (c ∷ cs) t = P t × Throughout P k cs (called k c t .table)
 
--- The call is a step of claimant i, an ask, or a leave.
+-- The call is a step of claimant i, accepted or refused.
 unfoldable pub stepOf : (i : ℕ) → Deed
 stepOf i (Ask w s) t t′ = false
 stepOf i (Step w) t t′ = eqb w i
 stepOf i (Leave w) t t′ = false
 
-unfoldable pub askOf : (i : ℕ) → Deed
-askOf i (Ask w s) t t′ = eqb w i
-askOf i (Step w) t t′ = false
-askOf i (Leave w) t t′ = false
+-- The call is an ask of claimant i that is accepted, or a leave that is: nothing else takes it from the one place to the other.
+unfoldable pub asks : (i : ℕ) → Deed
+asks i c t t′ = eqb (placeOf t i) 0 and eqb (placeOf t′ i) 1
 
-unfoldable pub leaveOf : (i : ℕ) → Deed
-leaveOf i (Ask w s) t t′ = false
-leaveOf i (Step w) t t′ = false
-leaveOf i (Leave w) t t′ = eqb w i
+unfoldable pub leaves : (i : ℕ) → Deed
+leaves i c t t′ = eqb (placeOf t i) 10 and eqb (placeOf t′ i) 11

@@ -7,11 +7,9 @@ use lib.IntN.{ℤ, pos, negℤ}
 use Rattle.rules.specs.Records.{claimant, blank}
 use Rattle.rules.specs.Tables.{Table, opened}
 use Rattle.rules.specs.declared.Terms.{Terms}
-use Rattle.store.specs.Runs.{Ran, running}
+use Rattle.store.specs.Runs.{running}
 use Rattle.store.specs.Standings.{standingOf}
-use Rattle.store.specs.declared.Outcome.the-variants.{Done}
-use Rattle.store.specs.declared.StandingAnswer.{StandingAnswer}
-use Rattle.store.specs.declared.StandingAnswer.the-variants.{Is}
+use Rattle.store.specs.Answers.{outcomeNumber, standingNumber, standingValue}
 
 -- The standing of a against b.
 pub record Standing : Type 0 where
@@ -32,10 +30,17 @@ pub record Situation : Type 0 where
   pub end : Table
   pub standings : List Standing
 
--- What a run gives back, and the standings then.
+-- A standing as it is answered: 01's number of the refusal, 0 for none, and the value.
+pub record Stands : Type 0 where
+  pub refusal : ℕ
+  pub value : ℤ
+
+-- What a run gives back, with 01's number of its refusal, and the standings then.
 pub record Seen : Type 0 where
-  pub run : Ran
-  pub standings : List StandingAnswer
+  pub end : Table
+  pub answers : List ℕ
+  pub refusal : ℕ
+  pub standings : List Stands
 
 abbrev pub terms : Situation → Terms
 terms s = record { ceiling = s .ceiling }
@@ -44,18 +49,24 @@ terms s = record { ceiling = s .ceiling }
 abbrev pub spare : List ℕ
 spare = 77 ∷ []
 
+abbrev pub seenStanding : Situation → Standing → Stands
+seenStanding s x =
+    let z = standingOf (terms s) (x .a) (x .b) (s .end) in
+    record { refusal = standingNumber z; value = standingValue z }
+
 unfoldable pub happens : Situation → Seen
 happens s =
-    record {
-      run = running (terms s) (s .schedule) (replicate (length (s .schedule)) 0 ++ spare) (s .from);
-      standings = map (λ (x : Standing). standingOf (terms s) (x .a) (x .b) (s .end)) (s .standings);
-    }
+    let ran = running (terms s) (s .schedule) (replicate (length (s .schedule)) 0 ++ spare) (s .from) in
+    record { end = ran .rows; answers = ran .answers; refusal = outcomeNumber (ran .outcome); standings = map (seenStanding s) (s .standings) }
 
+-- Nothing is refused.
 unfoldable pub expected : Situation → Seen
 expected s =
     record {
-      run = record { rows = s .end; answers = s .answers ++ spare; outcome = Done };
-      standings = map (λ (x : Standing). Is (x .is)) (s .standings);
+      end = s .end;
+      answers = s .answers ++ spare;
+      refusal = 0;
+      standings = map (λ (x : Standing). record { refusal = 0; value = x .is }) (s .standings);
     }
 
 -- Entries by what they say, as 01 numbers them.

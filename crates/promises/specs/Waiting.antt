@@ -12,7 +12,7 @@ use Rattle.rules.specs.Tables.{Table, recordOf, called, after, Sound}
 use Rattle.rules.specs.declared.Terms.{Terms}
 use Rattle.rules.specs.declared.Call.{Call}
 use Rattle.rules.specs.declared.Call.the-variants.{Step, Leave}
-use Rattle.promises.specs.Sequences.{placeOf, Deed, count, Throughout, stepOf, askOf, leaveOf}
+use Rattle.promises.specs.Sequences.{placeOf, Deed, count, Throughout, stepOf, asks, leaves}
 
 -- Own steps from the ask to the inside: the most where nobody conflicts ..
 abbrev pub mostSteps : (n : ℕ) → ℕ
@@ -34,12 +34,12 @@ Unopposed i t = (j : ℕ) → j ≢ i → conflict (recordOf t j .session) (reco
 unfoldable pub turnsAway : (i : ℕ) → Deed
 turnsAway i c t t′ = eqb (placeOf t i) 4 and eqb (placeOf t′ i) 12
 
--- Claimant i has asked, and has all those steps among the calls from then on. It does not leave again meanwhile.
+-- Claimant i has asked, and has all those steps among the calls from then on. Meanwhile no leave of its own is accepted.
 pub record Unhindered (n : ℕ) (k : Terms) (calls : List Call) (t : Table) (i : ℕ) : Type 0 where
   pub asked : placeOf t i ≡ 1
   pub nobody-conflicts : Throughout (Unopposed i) k calls t
   pub not-turned-away : count (turnsAway i) k calls t ≡ 0
-  pub no-leave : count (leaveOf i) k calls t ≡ 0
+  pub no-leave : count (leaves i) k calls t ≡ 0
   pub steps : mostSteps n ≤ count (stepOf i) k calls t
 
 -- Then it is inside, whatever the others do in between: it takes at most 5 N + 3 own steps.
@@ -60,12 +60,12 @@ InsideAlone =
     (m : ℕ) →
     placeOf (after k (replicate m (Step i)) t) i ≡ 10 ↔ loneSteps n ≤ m
 
--- After leave it is at rest in 2 steps, whatever the others do in between, until it asks anew.
+-- After leave it is at rest in 2 steps, whatever the others do in between, until an ask of its own is accepted.
 unfoldable pub BackToRest : Type 0
 BackToRest =
     (n : ℕ) (k : Terms) (calls : List Call) (t : Table) (i : ℕ) →
     Sound n k t →
     placeOf t i ≡ 10 →
     let t′ = called k (Leave i) t .table in
-    count (askOf i) k calls t′ ≡ 0 →
+    count (asks i) k calls t′ ≡ 0 →
     placeOf (after k calls t′) i ≡ 0 ↔ closingSteps ≤ count (stepOf i) k calls t′

@@ -48,7 +48,7 @@ none-shared {n} {k} {w} o a b e = (
   (ne-eqb (k .ceiling) 0 (omega (arith, o .ceiling-set)), (e, (ap not (within-holds 1 n w a b), tt))),
 )
 
-shared-none : {n : ℕ} {k : Terms} {w : ℕ} {broken : Bool} → NoneGiven (refusals n k w broken []) → Opens n k × ((1 ≤ w) × (w ≤ n)) × (broken ≡ false)
+pub shared-none : {n : ℕ} {k : Terms} {w : ℕ} {broken : Bool} → NoneGiven (refusals n k w broken []) → Opens n k × ((1 ≤ w) × (w ≤ n)) × (broken ≡ false)
 unfolding refusals
 shared-none {n} {k} {w} h =
     let l = within-true 1 64 n (not-false (within 1 64 n) (h .0)) in (
@@ -58,12 +58,12 @@ shared-none {n} {k} {w} h =
     )
 
 -- Then only what the call itself refuses decides.
-first-own : {n : ℕ} {k : Terms} {w : ℕ} {broken : Bool} (own : List Refusal) → Opens n k → 1 ≤ w → w ≤ n → broken ≡ false
+pub first-own : {n : ℕ} {k : Terms} {w : ℕ} {broken : Bool} (own : List Refusal) → Opens n k → 1 ≤ w → w ≤ n → broken ≡ false
     → first (refusals n k w broken own) ≡ first own
 unfolding refusals first
 first-own own o a b e = let h = none-shared o a b e in rw (h .0, h .1 .0, h .1 .1 .0, h .1 .1 .1 .0)
 
-value-holds : (k : Terms) (r : Register) (d : Claimant) → Bounds k d → holds r k (valueIn r d) ≡ true
+pub value-holds : (k : Terms) (r : Register) (d : Claimant) → Bounds k d → holds r k (valueIn r d) ≡ true
 value-holds k Nothing d b = refl
 value-holds k (Choosing o) d b = le-leb (d .choosing) 1 (b .choosing)
 value-holds k (Session o) d b = le-leb (d .session) 65535 (b .session)

@@ -6,17 +6,13 @@ use mathlib.Core.Logic.{_≢_, _⊎_, inl, inr}
 use Prim.Native.Nat.{ℕ, _≤_, _<_}
 use native.Mathlib.Omega.{arith}
 use lib.Dec.{eqb, leb, ltb}
+pub use borrow.Table.Steps.{cases as decide}
 use borrow.Author.Tests.{leb-true, eqb-true, eqb-false, ltb-true, not-true, le-leb, ne-eqb}
 use Rattle.rules.specs.Tests.{pick, _and_, _or_, within, Refusal, first}
 use Rattle.rules.specs.Rules.{conflict, before}
 
 pub true-not-false : {A : Type 0} → true ≡ false → A
 true-not-false e = let z : _≡_ {A = ℕ} 0 1 = cc in absurd (omega arith)
-
--- By cases on a test, with what it tells.
-pub decide : {A : Type 0} (b : Bool) → (b ≡ true → A) → (b ≡ false → A) → A
-decide true f g = f refl
-decide false f g = g refl
 
 pub both : (a b : Bool) → (a and b) ≡ true → (a ≡ true) × (b ≡ true)
 both true b e = (refl, e)

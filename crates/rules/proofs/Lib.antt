@@ -5,5 +5,6 @@ pub mod Moves
 pub mod Rows
 pub mod Calls
 pub mod Keeping
+pub mod Laws
 pub mod Refusing
 pub mod Only

@@ -1,30 +1,27 @@
 -- What a well-formed record holds at each place: 01's table of thirteen rows as facts on numbers.
 use mathlib.Core.Path.{_≡_, refl}
 use mathlib.Core.Bool.{true}
+use mathlib.Core.Logic.{⊎-elim}
 use Prim.Native.Nat.{ℕ, zero, suc, _+_, _≤_, _<_}
 use native.Mathlib.Omega.{arith}
 use lib.Dec.{eqb, leb}
 use lib.ListN.{getD}
 use borrow.Author.Tests.{leb-true, eqb-true, eqb-false, le-leb, eq-eqb}
-use Rattle.rules.specs.Tests.{_and_}
+use Rattle.rules.specs.Tests.{_and_, within}
 use Rattle.rules.specs.Records.{claimant, placed}
 use Rattle.rules.specs.Places.{wellFormed, fits, rows, emptyRow, allows}
 use Rattle.rules.specs.declared.Claimant.{Claimant}
 use Rattle.rules.specs.declared.Terms.{Terms}
 use Rattle.rules.specs.declared.Row.{Row}
 use Rattle.rules.specs.declared.Kind.{Kind}
-use Rattle.rules.specs.declared.Kind.the-variants.{Zero, One, SomeSession, Wanted, RowNumber, UpToCeiling, OneToCeiling}
-use Rattle.rules.proofs.Choices.{decide, both, within-true, within-holds}
+use Rattle.rules.specs.declared.Kind.the-variants.{Zero, Set, ZeroOrSet}
+use Rattle.rules.proofs.Choices.{decide, both, either, within-true, within-holds}
 
--- What a kind says of a field.
-abbrev pub Allowed : Kind → (n : ℕ) → Terms → (want x : ℕ) → Type 0
-Allowed Zero n k w x = x ≡ 0
-Allowed One n k w x = x ≡ 1
-Allowed SomeSession n k w x = (1 ≤ x) × (x ≤ 65535)
-Allowed Wanted n k w x = x ≡ w
-Allowed RowNumber n k w x = (1 ≤ x) × (x ≤ n)
-Allowed UpToCeiling n k w x = x ≤ k .ceiling
-Allowed OneToCeiling n k w x = (1 ≤ x) × (x ≤ k .ceiling)
+-- What a kind says of a field, which is set from low to high.
+abbrev pub Allowed : Kind → (low high x : ℕ) → Type 0
+Allowed Zero low high x = x ≡ 0
+Allowed Set low high x = (low ≤ x) × (x ≤ high)
+Allowed ZeroOrSet low high x = (1 ≤ x → low ≤ x) × (x ≤ high)
 
 abbrev pub rowAt : ℕ → Row
 unfolding rows
@@ -32,47 +29,40 @@ rowAt p = getD rows p emptyRow
 
 -- The six fields are of the kinds that the row gives.
 pub record Fits (r : Row) (n : ℕ) (k : Terms) (choosing session token want other seen : ℕ) : Type 0 where
-  pub session-fits : Allowed (r .session) n k want session
-  pub want-fits : Allowed (r .want) n k want want
-  pub choosing-fits : Allowed (r .choosing) n k want choosing
-  pub token-fits : Allowed (r .token) n k want token
-  pub other-fits : Allowed (r .other) n k want other
-  pub seen-fits : Allowed (r .seen) n k want seen
+  pub session-fits : Allowed (r .session) want want session
+  pub want-fits : Allowed (r .want) 1 65535 want
+  pub choosing-fits : Allowed (r .choosing) 1 1 choosing
+  pub token-fits : Allowed (r .token) 1 (k .ceiling) token
+  pub other-fits : Allowed (r .other) 1 n other
+  pub seen-fits : Allowed (r .seen) 1 (k .ceiling) seen
 
 -- The record is well-formed, in a table of n rows.
 pub record Formed (n : ℕ) (k : Terms) (c : Claimant) : Type 0 where
   pub has-row : c .place ≤ 12
   pub fields : Fits (rowAt (c .place)) n k (c .choosing) (c .session) (c .token) (c .want) (c .other) (c .seen)
 
-allowed : (a : Kind) (n : ℕ) (k : Terms) (w x : ℕ) → allows a n k w x ≡ true → Allowed a n k w x
-allowed Zero n k w x e = eqb-true x 0 e
-allowed One n k w x e = eqb-true x 1 e
-allowed SomeSession n k w x e = within-true 1 65535 x e
-allowed Wanted n k w x e = eqb-true x w e
-allowed RowNumber n k w x e = within-true 1 n x e
-allowed UpToCeiling n k w x e = leb-true x (k .ceiling) e
-allowed OneToCeiling n k w x e = within-true 1 (k .ceiling) x e
+allowed : (a : Kind) (low high x : ℕ) → allows a low high x ≡ true → Allowed a low high x
+allowed Zero low high x e = eqb-true x 0 e
+allowed Set low high x e = within-true low high x e
+allowed ZeroOrSet low high x e = ⊎-elim (λ h. let z = eqb-true x 0 h in omega arith) (λ h. let g = within-true low high x h in (λ l. g .0, g .1)) (either (eqb x 0) (within low high x) e)
 
-allows-it : (a : Kind) (n : ℕ) (k : Terms) (w x : ℕ) → Allowed a n k w x → allows a n k w x ≡ true
-allows-it Zero n k w x h = eq-eqb x 0 h
-allows-it One n k w x h = eq-eqb x 1 h
-allows-it SomeSession n k w x h = within-holds 1 65535 x (h .0) (h .1)
-allows-it Wanted n k w x h = eq-eqb x w h
-allows-it RowNumber n k w x h = within-holds 1 n x (h .0) (h .1)
-allows-it UpToCeiling n k w x h = le-leb x (k .ceiling) h
-allows-it OneToCeiling n k w x h = within-holds 1 (k .ceiling) x (h .0) (h .1)
+allows-it : (a : Kind) (low high x : ℕ) → Allowed a low high x → allows a low high x ≡ true
+allows-it Zero low high x h = eq-eqb x 0 h
+allows-it Set low high x h = within-holds low high x (h .0) (h .1)
+allows-it ZeroOrSet low high x h =
+    decide (eqb x 0) (λ e. rw e) (λ e. rw (e, within-holds low high x (h .0 (omega (arith, eqb-false x 0 e))) (h .1)))
 
 pub formed : (n : ℕ) (k : Terms) (c : Claimant) → wellFormed n k c ≡ true → Formed n k c
 unfolding wellFormed fits rows
 formed n k c e =
     let r = rowAt (c .place) in
     let w = c .want in
-    let a₁ = allows (r .session) n k w (c .session) in
-    let a₂ = allows (r .want) n k w w in
-    let a₃ = allows (r .choosing) n k w (c .choosing) in
-    let a₄ = allows (r .token) n k w (c .token) in
-    let a₅ = allows (r .other) n k w (c .other) in
-    let a₆ = allows (r .seen) n k w (c .seen) in
+    let a₁ = allows (r .session) w w (c .session) in
+    let a₂ = allows (r .want) 1 65535 w in
+    let a₃ = allows (r .choosing) 1 1 (c .choosing) in
+    let a₄ = allows (r .token) 1 (k .ceiling) (c .token) in
+    let a₅ = allows (r .other) 1 n (c .other) in
+    let a₆ = allows (r .seen) 1 (k .ceiling) (c .seen) in
     let h = both (leb (c .place) 12) (a₁ and a₂ and a₃ and a₄ and a₅ and a₆) e in
     let h₁ = both a₁ (a₂ and a₃ and a₄ and a₅ and a₆) (h .1) in
     let h₂ = both a₂ (a₃ and a₄ and a₅ and a₆) (h₁ .1) in
@@ -82,12 +72,12 @@ formed n k c e =
     record {
       has-row = leb-true (c .place) 12 (h .0);
       fields = record {
-        session-fits = allowed (r .session) n k w (c .session) (h₁ .0);
-        want-fits = allowed (r .want) n k w w (h₂ .0);
-        choosing-fits = allowed (r .choosing) n k w (c .choosing) (h₃ .0);
-        token-fits = allowed (r .token) n k w (c .token) (h₄ .0);
-        other-fits = allowed (r .other) n k w (c .other) (h₅ .0);
-        seen-fits = allowed (r .seen) n k w (c .seen) (h₅ .1);
+        session-fits = allowed (r .session) w w (c .session) (h₁ .0);
+        want-fits = allowed (r .want) 1 65535 w (h₂ .0);
+        choosing-fits = allowed (r .choosing) 1 1 (c .choosing) (h₃ .0);
+        token-fits = allowed (r .token) 1 (k .ceiling) (c .token) (h₄ .0);
+        other-fits = allowed (r .other) 1 n (c .other) (h₅ .0);
+        seen-fits = allowed (r .seen) 1 (k .ceiling) (c .seen) (h₅ .1);
       };
     }
 
@@ -99,12 +89,12 @@ well-formed {n} {k} {c} f =
     let g = f .fields in
     rw (
       le-leb (c .place) 12 (f .has-row),
-      allows-it (r .session) n k w (c .session) (g .session-fits),
-      allows-it (r .want) n k w w (g .want-fits),
-      allows-it (r .choosing) n k w (c .choosing) (g .choosing-fits),
-      allows-it (r .token) n k w (c .token) (g .token-fits),
-      allows-it (r .other) n k w (c .other) (g .other-fits),
-      allows-it (r .seen) n k w (c .seen) (g .seen-fits),
+      allows-it (r .session) w w (c .session) (g .session-fits),
+      allows-it (r .want) 1 65535 w (g .want-fits),
+      allows-it (r .choosing) 1 1 (c .choosing) (g .choosing-fits),
+      allows-it (r .token) 1 (k .ceiling) (c .token) (g .token-fits),
+      allows-it (r .other) 1 n (c .other) (g .other-fits),
+      allows-it (r .seen) 1 (k .ceiling) (c .seen) (g .seen-fits),
     )
 
 -- A statement for each of the `count` numbers from `low` on: so that one goes by cases on a place's number.

@@ -4,3 +4,4 @@ pub mod Places
 pub mod Answers
 pub mod Rules
 pub mod Tables
+pub mod Laws

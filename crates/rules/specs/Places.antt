@@ -4,12 +4,12 @@ use mathlib.Core.Bool.{Bool}
 use mathlib.Core.List.{List, [], _∷_}
 use lib.Dec.{eqb, leb}
 use lib.ListN.{getD}
-use Rattle.rules.specs.Tests.{_and_, within}
+use Rattle.rules.specs.Tests.{_and_, _or_, within}
 use Rattle.rules.specs.declared.Claimant.{Claimant}
 use Rattle.rules.specs.declared.Terms.{Terms}
 use Rattle.rules.specs.declared.Row.{Row}
 use Rattle.rules.specs.declared.Kind.{Kind}
-use Rattle.rules.specs.declared.Kind.the-variants.{Zero, One, SomeSession, Wanted, RowNumber, UpToCeiling, OneToCeiling}
+use Rattle.rules.specs.declared.Kind.the-variants.{Zero, Set, ZeroOrSet}
 
 -- The places by name, in the order of their numbers; a number over 12 is nowhere.
 pub data Place : Type 0 where
@@ -35,41 +35,38 @@ emptyRow = row Zero Zero Zero Zero Zero Zero
 unfoldable pub rows : List Row
 rows =
     emptyRow ∷
-    row Zero SomeSession Zero Zero Zero Zero ∷
-    row Wanted SomeSession Zero Zero Zero Zero ∷
-    row Wanted SomeSession One Zero RowNumber UpToCeiling ∷
-    row Wanted SomeSession One Zero Zero UpToCeiling ∷
-    row Wanted SomeSession One OneToCeiling Zero Zero ∷
-    row Wanted SomeSession Zero OneToCeiling RowNumber Zero ∷
-    row Wanted SomeSession Zero OneToCeiling RowNumber Zero ∷
-    row Wanted SomeSession Zero OneToCeiling RowNumber Zero ∷
-    row Wanted SomeSession Zero OneToCeiling RowNumber Zero ∷
-    row Wanted SomeSession Zero OneToCeiling Zero Zero ∷
-    row Wanted SomeSession Zero OneToCeiling Zero Zero ∷
-    row Wanted SomeSession Zero Zero Zero Zero ∷ []
+    row Zero Set Zero Zero Zero Zero ∷
+    row Set Set Zero Zero Zero Zero ∷
+    row Set Set Set Zero Set ZeroOrSet ∷
+    row Set Set Set Zero Zero ZeroOrSet ∷
+    row Set Set Set Set Zero Zero ∷
+    row Set Set Zero Set Set Zero ∷
+    row Set Set Zero Set Set Zero ∷
+    row Set Set Zero Set Set Zero ∷
+    row Set Set Zero Set Set Zero ∷
+    row Set Set Zero Set Zero Zero ∷
+    row Set Set Zero Set Zero Zero ∷
+    row Set Set Zero Zero Zero Zero ∷ []
+
+-- Whether a field of this kind may hold x, where it is set from low to high.
+abbrev pub allows : Kind → (low high x : ℕ) → Bool
+allows Zero low high x = eqb x 0
+allows Set low high x = within low high x
+allows ZeroOrSet low high x = eqb x 0 or within low high x
 
 -- A session that a claimant may want: a register holds no larger number, and 0 is no claim.
 abbrev pub isSession : ℕ → Bool
 isSession s = within 1 65535 s
 
--- Whether a field of this kind may hold x, in a table of n rows, at a claimant that wants this session.
-abbrev pub allows : Kind → (n : ℕ) → Terms → (want x : ℕ) → Bool
-allows Zero n k want x = eqb x 0
-allows One n k want x = eqb x 1
-allows SomeSession n k want x = isSession x
-allows Wanted n k want x = eqb x want
-allows RowNumber n k want x = within 1 n x
-allows UpToCeiling n k want x = leb x (k .ceiling)
-allows OneToCeiling n k want x = within 1 (k .ceiling) x
-
+-- Where they are set: Session equals want, want is a session, Choosing is 1, Token and seen are 1 to the ceiling, other is 1 to N.
 unfoldable pub fits : Row → (n : ℕ) → Terms → Claimant → Bool
 fits r n k c =
-    allows (r .session) n k (c .want) (c .session) and
-    allows (r .want) n k (c .want) (c .want) and
-    allows (r .choosing) n k (c .want) (c .choosing) and
-    allows (r .token) n k (c .want) (c .token) and
-    allows (r .other) n k (c .want) (c .other) and
-    allows (r .seen) n k (c .want) (c .seen)
+    allows (r .session) (c .want) (c .want) (c .session) and
+    allows (r .want) 1 65535 (c .want) and
+    allows (r .choosing) 1 1 (c .choosing) and
+    allows (r .token) 1 (k .ceiling) (c .token) and
+    allows (r .other) 1 n (c .other) and
+    allows (r .seen) 1 (k .ceiling) (c .seen)
 
 -- A record is well-formed: its place has a row, and each field is of the kind that the row gives.
 unfoldable pub wellFormed : (n : ℕ) → Terms → Claimant → Bool

@@ -1,167 +1,120 @@
 // What a record may hold at each place: 01's table of thirteen rows, and the check that consults it.
 ghost use mathlib.Core.Path.{_≡_};
-ghost use lib.ListN.{getD};
-ghost use Prim.Native.Nat.{_≤_};
 ghost use Rattle.rules.specs.Records.{blank};
-ghost use Rattle.rules.specs.Places.{rows, emptyRow, allows, fits, wellFormed};
+ghost use Rattle.rules.specs.Places.{allows, fits, wellFormed};
 use crate::Claimant;
 use crate::Kind;
 use crate::Row;
 use crate::Terms;
 use crate::bools::both;
+use crate::bools::either;
 use crate::bools::within;
 
-// A row a place: Session, want, Choosing, Token, other, seen.
-const ROWS: [Row; 13] = [
-    Row {
-        session: Kind::Zero,
-        want: Kind::Zero,
-        choosing: Kind::Zero,
-        token: Kind::Zero,
-        other: Kind::Zero,
-        seen: Kind::Zero,
-    },
-    Row {
-        session: Kind::Zero,
-        want: Kind::SomeSession,
-        choosing: Kind::Zero,
-        token: Kind::Zero,
-        other: Kind::Zero,
-        seen: Kind::Zero,
-    },
-    Row {
-        session: Kind::Wanted,
-        want: Kind::SomeSession,
-        choosing: Kind::Zero,
-        token: Kind::Zero,
-        other: Kind::Zero,
-        seen: Kind::Zero,
-    },
-    Row {
-        session: Kind::Wanted,
-        want: Kind::SomeSession,
-        choosing: Kind::One,
-        token: Kind::Zero,
-        other: Kind::RowNumber,
-        seen: Kind::UpToCeiling,
-    },
-    Row {
-        session: Kind::Wanted,
-        want: Kind::SomeSession,
-        choosing: Kind::One,
-        token: Kind::Zero,
-        other: Kind::Zero,
-        seen: Kind::UpToCeiling,
-    },
-    Row {
-        session: Kind::Wanted,
-        want: Kind::SomeSession,
-        choosing: Kind::One,
-        token: Kind::OneToCeiling,
-        other: Kind::Zero,
-        seen: Kind::Zero,
-    },
-    Row {
-        session: Kind::Wanted,
-        want: Kind::SomeSession,
-        choosing: Kind::Zero,
-        token: Kind::OneToCeiling,
-        other: Kind::RowNumber,
-        seen: Kind::Zero,
-    },
-    Row {
-        session: Kind::Wanted,
-        want: Kind::SomeSession,
-        choosing: Kind::Zero,
-        token: Kind::OneToCeiling,
-        other: Kind::RowNumber,
-        seen: Kind::Zero,
-    },
-    Row {
-        session: Kind::Wanted,
-        want: Kind::SomeSession,
-        choosing: Kind::Zero,
-        token: Kind::OneToCeiling,
-        other: Kind::RowNumber,
-        seen: Kind::Zero,
-    },
-    Row {
-        session: Kind::Wanted,
-        want: Kind::SomeSession,
-        choosing: Kind::Zero,
-        token: Kind::OneToCeiling,
-        other: Kind::RowNumber,
-        seen: Kind::Zero,
-    },
-    Row {
-        session: Kind::Wanted,
-        want: Kind::SomeSession,
-        choosing: Kind::Zero,
-        token: Kind::OneToCeiling,
-        other: Kind::Zero,
-        seen: Kind::Zero,
-    },
-    Row {
-        session: Kind::Wanted,
-        want: Kind::SomeSession,
-        choosing: Kind::Zero,
-        token: Kind::OneToCeiling,
-        other: Kind::Zero,
-        seen: Kind::Zero,
-    },
-    Row {
-        session: Kind::Wanted,
-        want: Kind::SomeSession,
-        choosing: Kind::Zero,
-        token: Kind::Zero,
-        other: Kind::Zero,
-        seen: Kind::Zero,
-    },
-];
+// The rows, by what a record with such a row is at.
+const REST: Row = Row {
+    session: Kind::Zero,
+    want: Kind::Zero,
+    choosing: Kind::Zero,
+    token: Kind::Zero,
+    other: Kind::Zero,
+    seen: Kind::Zero,
+};
+
+const ASKED: Row = Row {
+    session: Kind::Zero,
+    want: Kind::Set,
+    choosing: Kind::Zero,
+    token: Kind::Zero,
+    other: Kind::Zero,
+    seen: Kind::Zero,
+};
+
+const SIGNED: Row = Row {
+    session: Kind::Set,
+    want: Kind::Set,
+    choosing: Kind::Zero,
+    token: Kind::Zero,
+    other: Kind::Zero,
+    seen: Kind::Zero,
+};
+
+const SCANNING: Row = Row {
+    session: Kind::Set,
+    want: Kind::Set,
+    choosing: Kind::Set,
+    token: Kind::Zero,
+    other: Kind::Set,
+    seen: Kind::ZeroOrSet,
+};
+
+const TAKING: Row = Row {
+    session: Kind::Set,
+    want: Kind::Set,
+    choosing: Kind::Set,
+    token: Kind::Zero,
+    other: Kind::Zero,
+    seen: Kind::ZeroOrSet,
+};
+
+const LOWERING: Row = Row {
+    session: Kind::Set,
+    want: Kind::Set,
+    choosing: Kind::Set,
+    token: Kind::Set,
+    other: Kind::Zero,
+    seen: Kind::Zero,
+};
+
+const WAITING: Row = Row {
+    session: Kind::Set,
+    want: Kind::Set,
+    choosing: Kind::Zero,
+    token: Kind::Set,
+    other: Kind::Set,
+    seen: Kind::Zero,
+};
+
+const INSIDE: Row = Row {
+    session: Kind::Set,
+    want: Kind::Set,
+    choosing: Kind::Zero,
+    token: Kind::Set,
+    other: Kind::Zero,
+    seen: Kind::Zero,
+};
 
 impl Row {
-    // The row of a place.
-    fn at(place: u8) -> Row
-        requires { ⌜ place ≤ 12 ⌝ }
-        ensures { λ r. ⌜ r ≡ getD rows place emptyRow ⌝ }
-    {
-        ROWS[place as usize]
-    }
-
-    // Whether each field of the record is of its kind.
+    // Whether each field of the record is of its kind. Set, Session is the want, and the others are from 1 on.
     fn fits(self, n: usize, terms: Terms, c: Claimant) -> bool
         ensures { λ r. ⌜ r ≡ fits self n terms c ⌝ }
     {
-        let want = c.want;
+        let want = c.want as u64;
+        let ceiling = terms.ceiling as u64;
         let session = self.session;
         let wanted = self.want;
         let choosing = self.choosing;
         let token = self.token;
         let other = self.other;
         let seen = self.seen;
-        let a = session.allows(n, terms, want, c.session as u32);
-        let b = wanted.allows(n, terms, want, want as u32);
-        let d = choosing.allows(n, terms, want, c.choosing as u32);
-        let e = token.allows(n, terms, want, c.token);
-        let f = other.allows(n, terms, want, c.other as u32);
-        let g = seen.allows(n, terms, want, c.seen);
+        let a = session.allows(want, want, c.session as u64);
+        let b = wanted.allows(1, 65535, want);
+        let d = choosing.allows(1, 1, c.choosing as u64);
+        let e = token.allows(1, ceiling, c.token as u64);
+        let f = other.allows(1, n as u64, c.other as u64);
+        let g = seen.allows(1, ceiling, c.seen as u64);
         both(a, both(b, both(d, both(e, both(f, g)))))
     }
 }
 
 impl Kind {
-    // Whether a field of this kind may hold x.
-    fn allows(self, n: usize, terms: Terms, want: u16, x: u32) -> bool
-        ensures { λ r. ⌜ r ≡ allows self n terms want x ⌝ }
+    // Whether a field of this kind may hold x, where it is set from low to high.
+    fn allows(self, low: u64, high: u64, x: u64) -> bool
+        ensures { λ r. ⌜ r ≡ allows self low high x ⌝ }
     {
         match self {
             Kind::Zero => x == 0,
-            Kind::One => x == 1,
-            Kind::SomeSession => within(1, 65535, x as u64),
-            Kind::Wanted => x == want as u32,
-            Kind::RowNumber => within(1, n as u64, x as u64),
-            Kind::UpToCeiling => x <= terms.ceiling,
-            Kind::OneToCeiling => within(1, terms.ceiling as u64, x as u64),
+            Kind::Set => within(low, high, x),
+            Kind::ZeroOrSet => either(x == 0, within(low, high, x)),
         }
     }
 }
@@ -182,14 +135,21 @@ impl Claimant {
         }
     }
 
-    // Whether the record keeps its place's row, in a table of n rows.
+    // Whether the record keeps its place's row, in a table of n rows. This is the table of thirteen rows.
     pub fn well_formed(self, n: usize, terms: Terms) -> bool
         ensures { λ r. ⌜ r ≡ wellFormed n terms self ⌝ }
     {
         let place = self.place;
-        if 12 < place {
-            return false;
+        match place {
+            0 => REST.fits(n, terms, self),
+            1 => ASKED.fits(n, terms, self),
+            2 | 12 => SIGNED.fits(n, terms, self),
+            3 => SCANNING.fits(n, terms, self),
+            4 => TAKING.fits(n, terms, self),
+            5 => LOWERING.fits(n, terms, self),
+            6 | 7 | 8 | 9 => WAITING.fits(n, terms, self),
+            10 | 11 => INSIDE.fits(n, terms, self),
+            _ => false,
         }
-        Row::at(place).fits(n, terms, self)
     }
 }

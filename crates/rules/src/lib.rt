@@ -54,19 +54,15 @@ pub enum Register {
     Token(u8),
 }
 
-// What a field may hold.
-pub enum Kind {
+// What a field may hold: 0, or what 01 sets it to, or either.
+pub(crate) enum Kind {
     Zero,
-    One,
-    SomeSession,
-    Wanted,
-    RowNumber,
-    UpToCeiling,
-    OneToCeiling,
+    Set,
+    ZeroOrSet,
 }
 
 // What each field may hold at one place.
-pub struct Row {
+pub(crate) struct Row {
     pub session: Kind,
     pub want: Kind,
     pub choosing: Kind,

@@ -13,12 +13,11 @@ use Rattle.rules.specs.declared.Terms.{Terms}
 use Rattle.rules.specs.declared.Call.{Call}
 use Rattle.rules.proofs.Choices.{decide, true-not-false}
 use Rattle.rules.specs.declared.Answer.the-variants.{Refused}
-use Rattle.store.specs.declared.Entry.{Entry}
 use Rattle.store.specs.declared.Entry.the-variants.{Made, Barred}
-use Rattle.store.specs.Entries.{written, callerOf, turnIn, tableBar, unlessBarred}
+use Rattle.store.specs.Entries.{turnIn, tableBar, unlessBarred}
 use Rattle.store.specs.Runs.{lowestBroken}
 use Rattle.store.specs.Schedules.{entered}
-use Rattle.store.proofs.Entering.{barred, entered-is}
+use Rattle.store.proofs.Entering.{Does, barred, entered-is}
 use Rattle.store.proofs.Judging.{call-sound}
 use Rattle.store.proofs.Lowest.{broken-is}
 
@@ -38,14 +37,10 @@ module _ (k : Terms) (c : Call) (t : Table) where
   refused e =
       rw (first-front (openRefusals (length t) k ++ (3 when not (allWellFormed (length t) k t) ∷ [])) (4 when not (within 1 (length t) (caller c)) ∷ []) e, e)
 
-  -- what an entry leaves and answers is what the call does
-  abbrev Does : Entry → Type 0
-  Does e = (written t (callerOf e) (turnIn k e t .after) ≡ called k c t .table) × (turnIn k e t .answer ≡ called k c t .answer)
-
-  does : (b : Bool) → eqb bar 0 ≡ b → Does (pick b (Made c) (Barred bar))
-  unfolding turnIn entered
+  does : (b : Bool) → eqb bar 0 ≡ b → let e = pick b (Made c) (Barred (caller c) bar) in Does e (turnIn k e t) t (called k c t)
+  unfolding entered
   does true e = entered-is k (Made c) t (call-sound k t (eqb-true bar 0 e))
-  does false e = rw (refused e) (barred k bar t, refl)
+  does false e = rw (refused e) (barred k (caller c) bar t)
 
-  pub call-is : Does (unlessBarred (tableBar (length t) k (not (eqb (lowestBroken k t) 0))) c)
+  pub call-is : let e = unlessBarred (tableBar (length t) k (not (eqb (lowestBroken k t) 0))) c in Does e (turnIn k e t) t (called k c t)
   call-is = rw (broken-is k t) (does (eqb bar 0) refl)

@@ -5,6 +5,7 @@ pub mod Lowest
 pub mod Records
 pub mod Judging
 pub mod Entering
+pub mod Laws
 pub mod Calling
 pub mod Filling
 pub mod Opening

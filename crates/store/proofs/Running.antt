@@ -11,6 +11,7 @@ use lib.Seq.{drop-cons, drop-length}
 use borrow.Author.Tests.{eq-eqb, ne-eqb}
 use Rattle.rules.specs.Answers.{byteOf}
 use Rattle.rules.specs.Tables.{Table, recordOf, Sound}
+use Rattle.rules.specs.declared.Claimant.{Claimant}
 use Rattle.rules.specs.declared.Terms.{Terms}
 use Rattle.rules.specs.declared.Answer.{Answer}
 use Rattle.store.specs.Runs.{outcomeOf, lowestBroken, runRefusal, running}
@@ -49,9 +50,9 @@ module _ (k : Terms) (es : List ℕ) (t t′ : Table) (i : ℕ) (h : i < length 
   unfolding answered
   answered-step = rw (e, ea, add-one, drop-cons es i 0)
 
-  pub traced-step : traced k (drop i es) t ≡ five (recordOf t′ (claimantIn (getD es i 0))) a ++ traced k (drop (i + 1) es) t′
+  pub traced-step : (c : Claimant) → c ≡ recordOf t′ (claimantIn (getD es i 0)) → traced k (drop i es) t ≡ five c a ++ traced k (drop (i + 1) es) t′
   unfolding traced
-  traced-step = rw (e, ea, add-one, drop-cons es i 0)
+  traced-step c ec = rw (ec, e, ea, add-one, drop-cons es i 0)
 
 module _ (k : Terms) (es : List ℕ) (t : Table) (i : ℕ) (e : i ≡ length es) where
   pub answered-end : map byteOf (answered k (drop i es) t) ≡ []

@@ -13,7 +13,7 @@ use Rattle.rules.specs.Answers.{byteOf}
 use Rattle.rules.specs.Rules.{reads}
 use Rattle.rules.specs.Tables.{rowRead}
 use Rattle.store.specs.Entries.{rowAt, callerOf, turnFor, tableBar, unlessBarred, rowsFor}
-use Rattle.store.specs.Schedules.{decoded, claimantIn}
+use Rattle.store.specs.Schedules.{decoded}
 use Rattle.store.specs.Runs.{openRefusal, runRefusal, outcomeOf}
 use Rattle.store.specs.Trials.{trialRefusal, termsOf}
 use Rattle.store.specs.Standings.{standingOn}
@@ -48,9 +48,6 @@ use Rattle.store.proofs.entries.answer.Met as #turn-answer-met
 use Rattle.store.proofs.Entry.decoded as #entry-decoded
 use Rattle.store.proofs.Entry.decoded.Symbol as #entry-decoded-symbol
 use Rattle.store.proofs.Entry.decoded.Met as #entry-decoded-met
-use Rattle.store.proofs.entries.claimant_in as #claimant-in
-use Rattle.store.proofs.entries.claimant_in.Symbol as #claimant-in-symbol
-use Rattle.store.proofs.entries.claimant_in.Met as #claimant-in-met
 use Rattle.store.proofs.refusals.opening as #open-refusal
 use Rattle.store.proofs.refusals.opening.Symbol as #open-refusal-symbol
 use Rattle.store.proofs.refusals.opening.Met as #open-refusal-met
@@ -143,13 +140,6 @@ abbrev pub entry-decoded : Value (num w32 ∷ []) EntryE
 entry-decoded = record {
   def = record { name = #entry-decoded-symbol.name; routine = #entry-decoded-symbol.routine; clauses = #entry-decoded.clauses; met = #entry-decoded-met.met };
   gives = λ a. decoded (a .0);
-  tells = λ 𝓤 H A mem run a. (tt, (λ _. id⊢ 𝓤 _), (λ r ws. id⊢ 𝓤 _));
-}
-
-abbrev pub claimant-in : Value (num w32 ∷ []) (num w32)
-claimant-in = record {
-  def = record { name = #claimant-in-symbol.name; routine = #claimant-in-symbol.routine; clauses = #claimant-in.clauses; met = #claimant-in-met.met };
-  gives = λ a. claimantIn (a .0);
   tells = λ 𝓤 H A mem run a. (tt, (λ _. id⊢ 𝓤 _), (λ r ws. id⊢ 𝓤 _));
 }
 

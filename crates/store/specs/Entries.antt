@@ -4,7 +4,7 @@ use mathlib.Core.Bool.{Bool}
 use mathlib.Core.List.{[], _∷_, _++_}
 use lib.Dec.{eqb, ltb}
 use lib.ListN.{length, set}
-use Rattle.rules.specs.Tests.{pick, within, _when_, first}
+use Rattle.rules.specs.Tests.{pick, _when_, first}
 use Rattle.rules.specs.Rules.{reads, valueIn, openRefusals, asked, stepTaken, left}
 use Rattle.rules.specs.Tables.{Table, recordOf, rowRead, caller}
 use Rattle.rules.specs.declared.Claimant.{Claimant}
@@ -16,18 +16,18 @@ use Rattle.rules.specs.declared.Answer.the-variants.{Refused}
 use Rattle.store.specs.declared.Entry.{Entry}
 use Rattle.store.specs.declared.Entry.the-variants.{Made, Barred}
 
--- Where the record of claimant w stands in a row of n records; n where there is none.
+-- Where the record of claimant w stands in a row of n records; n or more where there is none.
 unfoldable pub rowAt : (n w : ℕ) → ℕ
-rowAt n w = pick (within 1 n w) (w - 1) n
+rowAt n w = pick (eqb w 0) n (w - 1)
 
 -- The table with that record written, or as it was where there is none.
 unfoldable pub written : Table → (w : ℕ) → Claimant → Table
 written t w c = set t (rowAt (length t) w) c
 
--- Nobody makes a barred entry.
+-- Who makes the entry's call, or would have made it.
 abbrev pub callerOf : Entry → ℕ
 callerOf (Made c) = caller c
-callerOf (Barred r) = 0
+callerOf (Barred w r) = w
 
 -- The rule for a call, on the caller's own record and the one that it looks at.
 abbrev pub turnOn : (n : ℕ) → Terms → Call → (own looked : Claimant) → Turn
@@ -37,7 +37,7 @@ turnOn n k (Leave w) c d = left n k w c
 
 abbrev pub turnFor : (n : ℕ) → Terms → Entry → (own looked : Claimant) → Turn
 turnFor n k (Made c) own d = turnOn n k c own d
-turnFor n k (Barred r) own d = record { after = own; answer = Refused r }
+turnFor n k (Barred w r) own d = record { after = own; answer = Refused r }
 
 -- The turn of an entry in a table.
 unfoldable pub turnIn : Terms → Entry → Table → Turn
@@ -48,7 +48,7 @@ unfoldable pub tableBar : (n : ℕ) → Terms → (broken : Bool) → ℕ
 tableBar n k broken = first (openRefusals n k ++ (3 when broken ∷ []))
 
 abbrev pub unlessBarred : (refusal : ℕ) → Call → Entry
-unlessBarred r c = pick (eqb r 0) (Made c) (Barred r)
+unlessBarred r c = pick (eqb r 0) (Made c) (Barred (caller c) r)
 
 -- As many rows as a trial has claimants; none for more than 64, which is refused as none is.
 unfoldable pub rowsFor : (claimants : ℕ) → ℕ

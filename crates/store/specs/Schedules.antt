@@ -1,8 +1,9 @@
 -- Schedules: what an entry says, what it does to a table, and the entries one after the other.
 use Prim.Native.Nat.{ℕ, _/_, _%_}
+use mathlib.Core.Bool.{Bool, not}
 use mathlib.Core.List.{List, [], _∷_}
-use lib.Dec.{eqb}
-use Rattle.rules.specs.Tests.{pick}
+use lib.Dec.{eqb, ltb}
+use Rattle.rules.specs.Tests.{pick, _and_, _or_}
 use Rattle.rules.specs.Tables.{Table, Called, called}
 use Rattle.rules.specs.declared.Terms.{Terms}
 use Rattle.rules.specs.declared.Call.{Call}
@@ -22,22 +23,23 @@ claimantIn e = e / 65536 % 256
 abbrev pub sessionIn : ℕ → ℕ
 sessionIn e = e % 65536
 
--- A call that names no session: an entry that has one all the same is barred.
-abbrev pub sessionless : (session : ℕ) → Call → Entry
-sessionless s c = pick (eqb s 0) (Made c) (Barred 9)
+-- Refusal 9: kind over 2, or session field not 0 with kind 0 or 2.
+abbrev pub isNine : (entry : ℕ) → Bool
+isNine e = ltb 2 (kindIn e) or (not (eqb (kindIn e) 1) and not (eqb (sessionIn e) 0))
 
--- Kind 0 is step, 1 ask, 2 leave, and there is no other.
-unfoldable pub decoded : ℕ → Entry
-decoded e =
-    pick (eqb (kindIn e) 0) (sessionless (sessionIn e) (Step (claimantIn e)))
-    (pick (eqb (kindIn e) 1) (Made (Ask (claimantIn e) (sessionIn e)))
-    (pick (eqb (kindIn e) 2) (sessionless (sessionIn e) (Leave (claimantIn e)))
-    (Barred 9)))
+-- The call of every other entry: kind 0 is step, 1 ask, 2 leave.
+abbrev pub callOf : (entry : ℕ) → Call
+callOf e =
+    pick (eqb (kindIn e) 0) (Step (claimantIn e))
+    (pick (eqb (kindIn e) 1) (Ask (claimantIn e) (sessionIn e)) (Leave (claimantIn e)))
+
+unfoldable pub decoded : (entry : ℕ) → Entry
+decoded e = pick (isNine e) (Barred (claimantIn e) 9) (Made (callOf e))
 
 -- An entry's call is made; a barred entry is refused and changes no record.
 unfoldable pub entered : Terms → Entry → Table → Called
 entered k (Made c) t = called k c t
-entered k (Barred r) t = record { table = t; answer = Refused r }
+entered k (Barred w r) t = record { table = t; answer = Refused r }
 
 -- The table after all entries ..
 unfoldable pub ran : Terms → (schedule : List ℕ) → Table → Table

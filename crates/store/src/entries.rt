@@ -1,10 +1,9 @@
 // What an entry says, and what it does to its caller's record.
 ghost use mathlib.Core.Path.{_≡_};
-ghost use Prim.Native.Nat.{_/_, _%_};
 ghost use Rattle.rules.specs.Rules.{reads};
 ghost use Rattle.rules.specs.Tables.{caller, rowRead};
 ghost use Rattle.store.specs.Entries.{rowAt, callerOf, turnOn, turnFor};
-ghost use Rattle.store.specs.Schedules.{sessionless, decoded, claimantIn};
+ghost use Rattle.store.specs.Schedules.{decoded};
 use crate::Entry;
 use rules::Answer;
 use rules::Call;
@@ -13,44 +12,35 @@ use rules::Terms;
 use rules::Turn;
 
 impl Entry {
-    // A 32-bit number: kind × 16,777,216 + claimant × 65,536 + session.
+    // A 32-bit number: kind × 16,777,216 + claimant × 65,536 + session. Kind 0 is step, 1 ask, 2 leave; only an ask has a session.
     pub(crate) fn decoded(number: u32) -> Entry
         ensures { λ r. ⌜ r ≡ decoded number ⌝ }
     {
         let kind = number / 16777216;
-        let who = claimant_in(number);
+        let who = number / 65536 % 256;
         let session = (number % 65536) as u16;
-        if kind == 0 {
-            return Entry::sessionless(session, Call::Step { who: who });
-        }
         if kind == 1 {
-            return Entry::Made(Call::Ask {
-                who: who,
-                session: session,
-            });
+            return Entry::Made(Call::Ask { who, session });
+        }
+        if session != 0 {
+            return Entry::Barred { who, refusal: 9 };
+        }
+        if kind == 0 {
+            return Entry::Made(Call::Step { who });
         }
         if kind == 2 {
-            return Entry::sessionless(session, Call::Leave { who: who });
+            return Entry::Made(Call::Leave { who });
         }
-        Entry::Barred(9)
+        Entry::Barred { who, refusal: 9 }
     }
 
-    fn sessionless(session: u16, call: Call) -> Entry
-        ensures { λ r. ⌜ r ≡ sessionless session call ⌝ }
-    {
-        if session == 0 {
-            return Entry::Made(call);
-        }
-        Entry::Barred(9)
-    }
-
-    // Nobody, 0, for a barred entry.
+    // Who makes the call, or would have made it.
     pub(crate) fn caller(self) -> u32
         ensures { λ r. ⌜ r ≡ callerOf self ⌝ }
     {
         match self {
             Entry::Made(call) => caller(call),
-            Entry::Barred(_) => 0,
+            Entry::Barred { who, refusal: _ } => who,
         }
     }
 
@@ -59,7 +49,7 @@ impl Entry {
     {
         match self {
             Entry::Made(call) => turn_on(call, n, terms, own, looked),
-            Entry::Barred(refusal) => Turn {
+            Entry::Barred { who: _, refusal } => Turn {
                 after: own,
                 answer: Answer::Refused(refusal),
             },
@@ -67,13 +57,7 @@ impl Entry {
     }
 }
 
-pub(crate) fn claimant_in(number: u32) -> u32
-    ensures { λ r. ⌜ r ≡ claimantIn number ⌝ }
-{
-    number / 65536 % 256
-}
-
-fn caller(call: Call) -> u32
+pub(crate) fn caller(call: Call) -> u32
     ensures { λ r. ⌜ r ≡ caller call ⌝ }
 {
     match call {
@@ -102,15 +86,12 @@ pub(crate) fn looked_at(own: Claimant) -> u32
     own.reads().row() as u32
 }
 
-// Where the record of a claimant stands in a row of n; n where there is none.
+// Where the record of a claimant stands in a row of n; n or more where there is none.
 pub(crate) fn row_at(n: usize, number: u32) -> usize
     ensures { λ r. ⌜ r ≡ rowAt n number ⌝ }
 {
     let w = number as usize;
     if w == 0 {
-        return n;
-    }
-    if n < w {
         return n;
     }
     w - 1

@@ -18,6 +18,7 @@ use rules::Answer;
 use rules::Call;
 use rules::Claimant;
 use rules::Terms;
+use rules::Turn;
 
 // What opening, running and a trial answer.
 pub enum Outcome {
@@ -31,10 +32,10 @@ pub enum StandingAnswer {
     Refused(u8),
 }
 
-// An entry of a schedule: the call that it makes, or the number that refuses it before it gets to a record.
-pub enum Entry {
+// An entry of a schedule: the call that it makes, or the number that refuses it before any rule does. Either names a claimant.
+pub(crate) enum Entry {
     Made(Call),
-    Barred(u8),
+    Barred { who: u32, refusal: u8 },
 }
 
 // The number of the lowest record that is not well-formed, from 1; 0 if there is none.
@@ -74,15 +75,15 @@ fn write(rows: &mut [Claimant], number: u32, own: Claimant)
 }
 
 // One entry, on a table that is judged already: it costs the record of its caller and the one that this looks at.
-fn enter(rows: &mut [Claimant], terms: Terms, entry: Entry) -> Answer
-    ensures { λ r. ⌜ (now (rows .exit) ≡ written (now (rows .entry)) (callerOf entry) (turnIn terms entry (now (rows .entry)) .after)) × (r ≡ turnIn terms entry (now (rows .entry)) .answer) ⌝ }
+fn enter(rows: &mut [Claimant], terms: Terms, entry: Entry) -> Turn
+    ensures { λ r. ⌜ (now (rows .exit) ≡ written (now (rows .entry)) (callerOf entry) (turnIn terms entry (now (rows .entry)) .after)) × (r ≡ turnIn terms entry (now (rows .entry))) ⌝ }
 {
     let number = entry.caller();
     let own = record_of(rows, number);
     let looked = record_of(rows, entries::looked_at(own));
     let turn = entry.turn(rows.len(), terms, own, looked);
     write(rows, number, entries::after(turn));
-    entries::answer(turn)
+    turn
 }
 
 // All fields of all records 0.
@@ -108,7 +109,7 @@ pub fn call(rows: &mut [Claimant], terms: Terms, call: Call) -> Answer
 {
     let broken = lowest_broken(rows, terms);
     let entry = refusals::judged(call, rows.len(), terms, broken);
-    enter(rows, terms, entry)
+    entries::answer(enter(rows, terms, entry))
 }
 
 // The entries in order, one answer byte each. The table is judged once.
@@ -122,7 +123,8 @@ pub fn run(rows: &mut [Claimant], terms: Terms, schedule: &[u32], answers: &mut 
     }
     let mut k = 0;
     while k < schedule.len() {
-        answers[k] = enter(rows, terms, Entry::decoded(schedule[k])).byte();
+        let turn = enter(rows, terms, Entry::decoded(schedule[k]));
+        answers[k] = entries::answer(turn).byte();
         k += 1;
     }
     refusals::outcome(0)
@@ -149,10 +151,8 @@ fn trace(rows: &mut [Claimant], terms: Terms, schedule: &[u32], left: &mut [u32]
     }
     let mut k = 0;
     while k < schedule.len() {
-        let number = schedule[k];
-        let answer = enter(rows, terms, Entry::decoded(number));
-        let own = record_of(rows, entries::claimant_in(number));
-        traces::note(left, 5 * k, own, answer);
+        let turn = enter(rows, terms, Entry::decoded(schedule[k]));
+        traces::note(left, 5 * k, turn);
         k += 1;
     }
     refusals::outcome(0)

@@ -9,6 +9,7 @@ ghost use Rattle.store.specs.Trials.{trialRefusal};
 ghost use Rattle.store.specs.Standings.{standingRefusal};
 use crate::Entry;
 use crate::Outcome;
+use crate::entries::caller;
 use rules::Call;
 use rules::Terms;
 
@@ -75,7 +76,10 @@ pub(crate) fn judged(call: Call, n: usize, terms: Terms, broken: usize) -> Entry
 {
     let refusal = table(n, terms, broken);
     if 0 < refusal {
-        return Entry::Barred(refusal);
+        return Entry::Barred {
+            who: caller(call),
+            refusal,
+        };
     }
     Entry::Made(call)
 }

@@ -6,9 +6,8 @@ ghost use lib.ListN.{length};
 ghost use lib.Seq.{sets};
 ghost use Rattle.store.specs.Entries.{rowsFor};
 ghost use Rattle.store.specs.Trials.{termsOf, five};
-use rules::Answer;
-use rules::Claimant;
 use rules::Terms;
+use rules::Turn;
 
 // As many rows as there are claimants; none for more than a table can have, which a trial refuses like none.
 pub(crate) fn rows_for(claimants: u32) -> usize
@@ -26,11 +25,13 @@ pub(crate) fn terms_of(ceiling: u32) -> Terms
     Terms { ceiling: ceiling }
 }
 
-// Five numbers, from `at` on.
-pub(crate) fn note(left: &mut [u32], at: usize, own: Claimant, answer: Answer)
+// Five numbers of the turn that was made, from `at` on.
+pub(crate) fn note(left: &mut [u32], at: usize, turn: Turn)
     requires { ⌜ at + 5 ≤ length (now left) ⌝ }
-    ensures { λ _. ⌜ now (left .exit) ≡ sets (now (left .entry)) at (five own answer) ⌝ }
+    ensures { λ _. ⌜ now (left .exit) ≡ sets (now (left .entry)) at (five (turn .after) (turn .answer)) ⌝ }
 {
+    let own = turn.after;
+    let answer = turn.answer;
     left[at] = own.place as u32;
     left[at + 1] = own.session as u32;
     left[at + 2] = own.choosing as u32;

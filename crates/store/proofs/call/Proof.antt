@@ -14,7 +14,7 @@ use Rattle.store.proofs.Calling.{call-is}
 use Rattle.store.proofs.Elements.{Row, TermsE, CallE, AnswerE}
 use Rattle.store.proofs.Enters.{enter-entry}
 use Rattle.store.proofs.Looks.{lowest-broken}
-use Rattle.store.proofs.Values.{judged-call}
+use Rattle.store.proofs.Values.{judged-call, turn-answer}
 use Rattle.store.proofs.call.Key.{name as #key}
 use Rattle.store.proofs.call as this
 use Rattle.store.proofs.call.Statement as stated
@@ -40,7 +40,7 @@ module _ {M : Type 1} (S : Site M) (κ : Lft) (q : Share) (x : RefT (List Claima
   abbrev e : Entry
   e = unlessBarred (tableBar n k (not (eqb broken 0))) c
 
-  walk : Meets S (lowest-broken .def) × Meets S (judged-call .def) × Meets S (enter-entry .def) → n < 2 ^ 64 → Is (TermsE .R) k (TermsE .val k ∷ []) → Is (CallE .R) c (CallE .val c ∷ [])
+  walk : Meets S (lowest-broken .def) × Meets S (judged-call .def) × Meets S (enter-entry .def) × Meets S (turn-answer .def) → n < 2 ^ 64 → Is (TermsE .R) k (TermsE .val k ∷ []) → Is (CallE .R) c (CallE .val c ∷ [])
       → Walk S F code.function (sliceVal (x .ptr) n ∷ TermsE .val k ∷ CallE .val c ∷ []) (Γ (now x))
   walk known fits gk gc bs =
       sets ! (tt, tt) (tt, tt) ▸  -- _6 = &*rows
@@ -48,10 +48,12 @@ module _ {M : Type 1} (S : Site M) (κ : Lft) (q : Share) (x : RefT (List Claima
       looks-mut S ! lowest-broken 0 (k, tt) refl (known .0) (gk, tt) ((tt, (tt, tt)), refl, refl) (λ gb.  -- _4 = lowest_broken(_7, _2)
       sets ! tt (tt, record { fits = fits }) ▸  -- _8 = rows.len()
       calls-to S ! judged-call (c, (n, (k, (broken, tt)))) (known .1) (gc, ((refl, fits), (gk, (gb, tt)))) ((tt, (tt, (tt, (tt, tt)))), refl, refl) (λ ge.  -- _5 = judged(_3, _8, _2, _4)
-      sets ! (tt, tt) (tt, tt) ▸  -- _9 = &mut *rows
-      sets ! (tt, (tt, tt)) (tt, (tt, (record { fits = fits }, tt))) ▸  -- _10 = (_9, rows.len())
-      changes S ! enter-entry 0 (k, (e, tt)) refl (known .2) tt (gk, (ge, tt)) ((tt, (tt, (tt, tt))), refl, refl) (λ same gr.  -- _0 = enter(_10, _2, _5)
-      returns ! F AnswerE (turnIn k e (now x) .answer) (turnIn k e (now x) .answer) (written (now x) (callerOf e) (turnIn k e (now x) .after), (tt, (tt, tt))) _ (tt, tt, refl, refl, refl, refl) gr (same, (tt, (tt, tt))) (call-is k c (now x)))))
+      sets ! (tt, tt) (tt, tt) ▸  -- _10 = &mut *rows
+      sets ! (tt, (tt, tt)) (tt, (tt, (record { fits = fits }, tt))) ▸  -- _11 = (_10, rows.len())
+      changes S ! enter-entry 0 (k, (e, tt)) refl (known .2) tt (gk, (ge, tt)) ((tt, (tt, (tt, tt))), refl, refl) (λ same gt.  -- _9 = enter(_11, _2, _5)
+      calls-to S ! turn-answer (turnIn k e (now x), tt) (known .3) (gt, tt) ((tt, tt), refl, refl) (λ gr.  -- _0 = answer(_9)
+      returns ! F AnswerE (turnIn k e (now x) .answer) (turnIn k e (now x) .answer) (written (now x) (callerOf e) (turnIn k e (now x) .after), (tt, (tt, tt))) _ (tt, tt, refl, refl, refl, refl) gr (same, (tt, (tt, tt)))
+      (call-is k c (now x) .table, call-is k c (now x) .answer)))))
 
 pub call-spec : {M : Type 1} → stated.statement M
 unfolding code.routine tablesOf
@@ -62,4 +64,5 @@ call-spec 𝓤 H 𝓜 𝓖 𝓡 =
       knows 𝓤 H 𝓜 𝓖 𝓡 code.env (lowest-broken .def) code.calls-store·lowest-broken,
       knows 𝓤 H 𝓜 𝓖 𝓡 code.env (judged-call .def) code.calls-store·refusals·judged,
       knows 𝓤 H 𝓜 𝓖 𝓡 code.env (enter-entry .def) code.calls-store·enter,
+      knows 𝓤 H 𝓜 𝓖 𝓡 code.env (turn-answer .def) code.calls-store·entries·answer,
     ) (are .0 .0 .1 .0) (are .1 .0) (are .1 .1 .0))))

@@ -1,7 +1,7 @@
 -- `store::enter` meets its contract: a walk of its MIR, a straight line.
 -- Assumes nothing.
 use contract.Running.{tablesOf}
-use Rattle.walks.proofs.Kit.{refl, ℕ, _<_, _^_, List, [], _∷_, length, Lft, Share, !, Is, RefT, now, sliceVal, slice-vals, Hold, val, mut, _▸_, sets, Site, Params, Function, by-value, mutable, Walk, walks, returns, site, closes, always, Meets, knows, calls-to, looks-mut, changes}
+use Rattle.walks.proofs.Kit.{refl, ℕ, _<_, _^_, List, [], _∷_, length, Lft, Share, !, Is, RefT, now, sliceVal, slice-vals, Hold, val, mut, _▸_, sets, Site, Params, Function, by-value, mutable, Walk, walks, returns, site, closes, always, Meets, knows, calls-to, looks-mut, changes, typed-of}
 use Rattle.rules.specs.Rules.{reads}
 use Rattle.rules.specs.Tables.{recordOf, rowRead}
 use Rattle.rules.specs.declared.Claimant.{Claimant}
@@ -9,9 +9,9 @@ use Rattle.rules.specs.declared.Terms.{Terms}
 use Rattle.rules.specs.declared.Turn.{Turn}
 use Rattle.store.specs.declared.Entry.{Entry}
 use Rattle.store.specs.Entries.{written, callerOf, turnFor, turnIn}
-use Rattle.store.proofs.Elements.{Row, TermsE, EntryE, AnswerE}
+use Rattle.store.proofs.Elements.{Row, TermsE, EntryE, TurnE}
 use Rattle.store.proofs.Looks.{record-of, write-record}
-use Rattle.store.proofs.Values.{entry-caller, looked-at, entry-turn, turn-after, turn-answer}
+use Rattle.store.proofs.Values.{entry-caller, looked-at, entry-turn, turn-after}
 use Rattle.store.proofs.enter.Key.{name as #key}
 use Rattle.store.proofs.enter as this
 use Rattle.store.proofs.enter.Statement as stated
@@ -42,7 +42,7 @@ module _ {M : Type 1} (S : Site M) (κ : Lft) (q : Share) (x : RefT (List Claima
 
   -- what the walk calls
   abbrev Known : Type 1
-  Known = Meets S (entry-caller .def) × Meets S (record-of .def) × Meets S (looked-at .def) × Meets S (entry-turn .def) × Meets S (turn-after .def) × Meets S (write-record .def) × Meets S (turn-answer .def)
+  Known = Meets S (entry-caller .def) × Meets S (record-of .def) × Meets S (looked-at .def) × Meets S (entry-turn .def) × Meets S (turn-after .def) × Meets S (write-record .def)
 
   walk : Known → n < 2 ^ 64 → Is (TermsE .R) k (TermsE .val k ∷ []) → Is (EntryE .R) e (EntryE .val e ∷ []) → Walk S F code.function (sliceVal (x .ptr) n ∷ TermsE .val k ∷ EntryE .val e ∷ []) (Γ (now x))
   unfolding turnIn
@@ -61,8 +61,8 @@ module _ {M : Type 1} (S : Site M) (κ : Lft) (q : Share) (x : RefT (List Claima
       sets ! (tt, (tt, tt)) (tt, (tt, (record { fits = fits }, tt))) ▸  -- _16 = (_15, rows.len())
       calls-to S ! turn-after (turn, tt) (known .4) (gt, tt) ((tt, tt), refl, refl) (λ ga.  -- _17 = after(_7)
       changes S ! write-record 0 (callerOf e, (turn .after, tt)) refl (known .5) tt (gw, (ga, tt)) ((tt, (tt, (tt, tt))), refl, refl) (λ same _.  -- _14 = write(_16, _4, _17)
-      calls-to S ! turn-answer (turn, tt) (known .6) (gt, tt) ((tt, tt), refl, refl) (λ gr.  -- _0 = answer(_7)
-      returns ! F AnswerE (turn .answer) (turn .answer) (written (now x) (callerOf e) (turn .after), (tt, (tt, tt))) _ (tt, tt, refl, refl, refl, refl) gr (same, (tt, (tt, tt))) (refl, refl)))))))))
+      sets ! tt (typed-of (S .𝓤) (S .H) (S .A) (S .W) TurnE turn gt) ▸  -- _0 = _7
+      returns ! F TurnE turn turn (written (now x) (callerOf e) (turn .after), (tt, (tt, tt))) _ (tt, tt, refl, refl, refl, refl) gt (same, (tt, (tt, tt))) (refl, refl))))))))
 
 pub enter-spec : {M : Type 1} → stated.statement M
 unfolding code.routine tablesOf
@@ -76,5 +76,4 @@ enter-spec 𝓤 H 𝓜 𝓖 𝓡 =
       knows 𝓤 H 𝓜 𝓖 𝓡 code.env (entry-turn .def) code.calls-store·Entry·turn,
       knows 𝓤 H 𝓜 𝓖 𝓡 code.env (turn-after .def) code.calls-store·entries·after,
       knows 𝓤 H 𝓜 𝓖 𝓡 code.env (write-record .def) code.calls-store·write,
-      knows 𝓤 H 𝓜 𝓖 𝓡 code.env (turn-answer .def) code.calls-store·entries·answer,
     ) (are .0 .0 .1 .0) (are .1 .0) (are .1 .1 .0))))

@@ -9,19 +9,20 @@ use Rattle.rules.specs.Answers.{byteOf}
 use Rattle.rules.specs.Tables.{Sound}
 use Rattle.rules.specs.declared.Claimant.{Claimant}
 use Rattle.rules.specs.declared.Terms.{Terms}
+use Rattle.rules.specs.declared.Turn.{Turn}
 use Rattle.rules.specs.declared.Answer.{Answer}
 use Rattle.store.specs.declared.Entry.{Entry}
 use Rattle.store.specs.Entries.{written, callerOf, turnIn}
 use Rattle.store.specs.Runs.{outcomeOf, lowestBroken, runRefusal}
-use Rattle.store.specs.Schedules.{decoded, answered}
+use Rattle.store.specs.Schedules.{decoded, entered, answered}
 use Rattle.store.proofs.Elements.{Row, TermsE, OutcomeE}
-use Rattle.store.proofs.Entering.{entered-on}
+use Rattle.store.proofs.Entering.{Does, entered-on}
 use Rattle.store.proofs.Enters.{enter-entry}
 use Rattle.store.proofs.Filling.{Filled, none-filled, filled-on, all-filled}
 use Rattle.store.proofs.Looks.{lowest-broken}
 use Rattle.store.proofs.Running.{RanTo, ran-start, ran-step, ran-end, answered-step, answered-end, run-refused, run-opens, run-done}
 use Rattle.store.proofs.Truths.{not-refused}
-use Rattle.store.proofs.Values.{run-refusal, to-outcome, entry-decoded, answer-byte}
+use Rattle.store.proofs.Values.{run-refusal, to-outcome, entry-decoded, turn-answer, answer-byte}
 use Rattle.store.proofs.run.Key.{name as #key}
 use Rattle.store.proofs.run as this
 use Rattle.store.proofs.run.Statement as stated
@@ -66,15 +67,22 @@ module _ {M : Type 1} (S : Site M) (κ₀ κ₁ κ₂ : Lft) (q₀ q₁ q₂ : S
   abbrev State : Type 0
   State = (i : ℕ) × (rows : List Claimant) × (row : List ℕ) × (i ≤ m) × RanTo n k (now s) (now x) rows i × Filled (to-come 0 (now x)) (now z) (to-come i rows) i row × (length row ≡ places)
 
-  -- the entry of a turn, the table after it, and what is answered
+  -- the entry of a turn, the turn that it makes, the table after it, and what is answered
   abbrev e : State → Entry
   e t = decoded (getD (now s) (t .0) 0)
 
+  abbrev turn : State → Turn
+  turn t = turnIn k (e t) (t .1)
+
   abbrev after : State → List Claimant
-  after t = written (t .1) (callerOf (e t)) (turnIn k (e t) (t .1) .after)
+  after t = written (t .1) (callerOf (e t)) (turn t .after)
 
   abbrev ans : State → Answer
-  ans t = turnIn k (e t) (t .1) .answer
+  ans t = turn t .answer
+
+  -- what that does to the table, by the definition
+  does : (t : State) → Does (e t) (turn t) (t .1) (entered k (e t) (t .1))
+  does t = entered-on (e t) (t .4 .sound)
 
   -- the state of the next turn
   abbrev next : (t : State) → t .0 < m → m ≤ places → State
@@ -83,9 +91,9 @@ module _ {M : Type 1} (S : Site M) (κ₀ κ₁ κ₂ : Lft) (q₀ q₁ q₂ : S
     after t,
     set (t .2) (t .0) (byteOf (ans t)),
     omega arith,
-    ran-step (now s) (now x) (after t) l (entered-on (e t) (t .4 .sound) .0) (t .4),
+    ran-step (now s) (now x) (after t) l (does t .table) (t .4),
     filled-on (to-come 0 (now x)) (now z) (byteOf (ans t) ∷ []) (to-come (t .0 + 1) (after t)) (t .0 + 1) (t .5)
-        (answered-step k (now s) (t .1) (after t) (t .0) l (entered-on (e t) (t .4 .sound) .0) (ans t) (entered-on (e t) (t .4 .sound) .1)) (omega arith) (omega (arith, l, le)),
+        (answered-step k (now s) (t .1) (after t) (t .0) l (does t .table) (ans t) (does t .answer)) (omega arith) (omega (arith, l, le)),
     length-set (t .2) (t .0) (byteOf (ans t)) ∙ t .6,
   )
 
@@ -94,21 +102,21 @@ module _ {M : Type 1} (S : Site M) (κ₀ κ₁ κ₂ : Lft) (q₀ q₁ q₂ : S
   answers-end t all = rw (← all) (all-filled (to-come 0 (now x)) (now z) (rw (answered-end k (now s) (t .1) (t .0) all) at (t .5)))
 
   abbrev Known : Type 1
-  Known = Meets S (lowest-broken .def) × Meets S (run-refusal .def) × Meets S (to-outcome .def) × Meets S (entry-decoded .def) × Meets S (enter-entry .def) × Meets S (answer-byte .def)
+  Known = Meets S (lowest-broken .def) × Meets S (run-refusal .def) × Meets S (to-outcome .def) × Meets S (entry-decoded .def) × Meets S (enter-entry .def) × Meets S (turn-answer .def) × Meets S (answer-byte .def)
 
   walk : Known → n < 2 ^ 64 → Is (TermsE .R) k (TermsE .val k ∷ []) → m < 2 ^ 64 → places < 2 ^ 64
       → Walk S F code.function (sliceVal (x .ptr) n ∷ TermsE .val k ∷ sliceVal (s .ptr) m ∷ sliceVal (z .ptr) places ∷ []) (Γ (now x) (now z))
   walk known fits gk fits-s fits-z bs =
-      sets ! (tt, tt) (tt, tt) ▸  -- _8 = &*rows
-      sets ! (tt, (tt, tt)) (tt, (tt, (record { fits = fits }, tt))) ▸  -- _9 = (_8, rows.len())
-      looks-mut S ! lowest-broken 0 (k, tt) refl (known .0) (gk, tt) ((tt, (tt, tt)), refl, refl) (λ gb.  -- _5 = lowest_broken(_9, _2)
-      sets ! tt (tt, record { fits = fits }) ▸  -- _10 = rows.len()
-      sets ! tt (tt, record { fits = fits-s }) ▸  -- _11 = schedule.len()
-      sets ! tt (tt, record { fits = fits-z }) ▸  -- _12 = answers.len()
-      -- _6 = running(_10, _2, _5, _11, _12)
+      sets ! (tt, tt) (tt, tt) ▸  -- _9 = &*rows
+      sets ! (tt, (tt, tt)) (tt, (tt, (record { fits = fits }, tt))) ▸  -- _10 = (_9, rows.len())
+      looks-mut S ! lowest-broken 0 (k, tt) refl (known .0) (gk, tt) ((tt, (tt, tt)), refl, refl) (λ gb.  -- _5 = lowest_broken(_10, _2)
+      sets ! tt (tt, record { fits = fits }) ▸  -- _11 = rows.len()
+      sets ! tt (tt, record { fits = fits-s }) ▸  -- _12 = schedule.len()
+      sets ! tt (tt, record { fits = fits-z }) ▸  -- _13 = answers.len()
+      -- _6 = running(_11, _2, _5, _12, _13)
       calls-to S ! run-refusal (n, (k, (lowestBroken k (now x), (m, (places, tt))))) (known .1) ((refl, fits), (gk, (gb, ((refl, fits-s), ((refl, fits-z), tt))))) ((tt, (tt, (tt, (tt, (tt, tt))))), refl, refl) (λ gr.
-      sets ! (tt, tt, tt) (tt, tt) ▸  -- _13 = 0 < _6
-      ifs ! (ltb 0 refusal) tt refl  -- if _13
+      sets ! (tt, tt, tt) (tt, tt) ▸  -- _14 = 0 < _6
+      ifs ! (ltb 0 refusal) tt refl  -- if _14
       (λ yes.
       calls-to S ! to-outcome (refusal, tt) (known .2) (gr, tt) ((tt, tt), refl, refl) (λ go.  -- _0 = outcome(_6)
       returns ! F OutcomeE (outcomeOf refusal) (outcomeOf refusal) (now x, (tt, (tt, (now z, tt)))) _ (tt, tt, refl, refl, refl, refl) go (refl, (tt, (tt, (refl, tt)))) (run-refused k (now s) (now z) (now x) (ltb→lt 0 refusal yes))))
@@ -118,14 +126,15 @@ module _ {M : Type 1} (S : Site M) (κ₀ κ₁ κ₂ : Lft) (q₀ q₁ q₂ : S
       (0, now x, now z, zero-le, ran-start (now s) (now x) (opens no .0), none-filled (to-come 0 (now x)) (now z), refl) (refl, (refl, (refl, (refl, (refl, tt))))) refl (λ t.
       whiles-below ! (t .0) m (refl, tt, tt) fits-s  -- while _7 < schedule.len()
       (λ l.
-      sets ! (tt, tt) (tt, tt) ▸  -- _18 = &mut *rows
-      sets ! (tt, (tt, tt)) (tt, (tt, (record { fits = fits }, tt))) ▸  -- _19 = (_18, rows.len())
-      reads ! (num w32) 2 0 (refl, tt, tt, tt) refl l (λ g.  -- _22 = schedule[_7]
-      calls-to S ! entry-decoded (getD (now s) (t .0) 0, tt) (known .3) (g, tt) ((tt, tt), refl, refl) (λ ge.  -- _20 = Entry::decoded(_22)
-      changes S ! enter-entry 0 (k, (e t, tt)) refl (known .4) tt (gk, (ge, tt)) ((tt, (tt, (tt, tt))), refl, refl) (λ same ga.  -- _17 = enter(_19, _2, _20)
-      calls-to S ! answer-byte (ans t, tt) (known .5) (ga, tt) ((tt, tt), refl, refl) (λ gb′.  -- _16 = _17.byte()
-      writes-byte ! (num w8) 3 0 (byteOf (ans t)) (refl, tt, tt) (tt, refl) (omega (arith, l, opens no .1, t .6)) gb′ ▸  -- answers[_7] = _16
-      again ! (next t l (opens no .1)) (omega arith) (tt, tt, record { fits = omega arith }) (tt, record { fits = omega arith }) (refl, (refl, (refl, (refl, (refl, tt))))) refl)))))  -- _7 = _7 + 1
+      sets ! (tt, tt) (tt, tt) ▸  -- _17 = &mut *rows
+      sets ! (tt, (tt, tt)) (tt, (tt, (record { fits = fits }, tt))) ▸  -- _18 = (_17, rows.len())
+      reads ! (num w32) 2 0 (refl, tt, tt, tt) refl l (λ g.  -- _21 = schedule[_7]
+      calls-to S ! entry-decoded (getD (now s) (t .0) 0, tt) (known .3) (g, tt) ((tt, tt), refl, refl) (λ ge.  -- _19 = Entry::decoded(_21)
+      changes S ! enter-entry 0 (k, (e t, tt)) refl (known .4) tt (gk, (ge, tt)) ((tt, (tt, (tt, tt))), refl, refl) (λ same gt.  -- _8 = enter(_18, _2, _19)
+      calls-to S ! turn-answer (turn t, tt) (known .5) (gt, tt) ((tt, tt), refl, refl) (λ ga.  -- _23 = answer(_8)
+      calls-to S ! answer-byte (ans t, tt) (known .6) (ga, tt) ((tt, tt), refl, refl) (λ gb′.  -- _22 = _23.byte()
+      writes-byte ! (num w8) 3 0 (byteOf (ans t)) (refl, tt, tt) (tt, refl) (omega (arith, l, opens no .1, t .6)) gb′ ▸  -- answers[_7] = _22
+      again ! (next t l (opens no .1)) (omega arith) (tt, tt, record { fits = omega arith }) (tt, record { fits = omega arith }) (refl, (refl, (refl, (refl, (refl, tt))))) refl))))))  -- _7 = _7 + 1
       (λ le.
       calls-to S ! to-outcome (0, tt) (known .2) ((refl, omega arith), tt) ((tt, tt), refl, refl) (λ go.  -- _0 = outcome(0)
       returns ! F OutcomeE (outcomeOf 0) (outcomeOf 0) (t .1, (tt, (tt, (t .2, tt)))) _ (tt, tt, refl, refl, refl, refl) go (t .4 .sound .length-is, (tt, (tt, (t .6, tt))))
@@ -143,5 +152,6 @@ run-spec 𝓤 H 𝓜 𝓖 𝓡 =
       knows 𝓤 H 𝓜 𝓖 𝓡 code.env (to-outcome .def) code.calls-store·refusals·outcome,
       knows 𝓤 H 𝓜 𝓖 𝓡 code.env (entry-decoded .def) code.calls-store·Entry·decoded,
       knows 𝓤 H 𝓜 𝓖 𝓡 code.env (enter-entry .def) code.calls-store·enter,
+      knows 𝓤 H 𝓜 𝓖 𝓡 code.env (turn-answer .def) code.calls-store·entries·answer,
       knows 𝓤 H 𝓜 𝓖 𝓡 code.env (answer-byte .def) code.calls-rules·Answer·byte,
     ) (are .0 .0 .1 .0) (are .1 .0) (are .1 .1 .0 .0 .1 .0) (are .1 .1 .1 .0 .0 .1 .0))))

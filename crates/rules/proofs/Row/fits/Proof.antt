@@ -4,23 +4,29 @@ use Rattle.rules.specs.Places.{fits}
 use Rattle.rules.proofs.Row.fits.Statement.{statement}
 use Rattle.rules.proofs.Row.fits.Tie as tie
 
+cast-want : tie.Need-cast-want
+cast-want c = search needs
+
+cast-ceiling : tie.Need-cast-ceiling
+cast-ceiling c = search needs
+
 cast-allows : tie.Need-cast-allows
 cast-allows c = search needs
 
 allows-requires : tie.Need-allows-requires
 allows-requires c κs = search needs
 
-cast-allows-2 : tie.Need-cast-allows-2
-cast-allows-2 c = search needs
-
 allows-requires-2 : tie.Need-allows-requires-2
 allows-requires-2 c κs = search needs
 
-cast-allows-3 : tie.Need-cast-allows-3
-cast-allows-3 c = search needs
+cast-allows-2 : tie.Need-cast-allows-2
+cast-allows-2 c = search needs
 
 allows-requires-3 : tie.Need-allows-requires-3
 allows-requires-3 c κs = search needs
+
+cast-allows-3 : tie.Need-cast-allows-3
+cast-allows-3 c = search needs
 
 allows-requires-4 : tie.Need-allows-requires-4
 allows-requires-4 c κs = search needs
@@ -30,6 +36,9 @@ cast-allows-4 c = search needs
 
 allows-requires-5 : tie.Need-allows-requires-5
 allows-requires-5 c κs = search needs
+
+cast-allows-5 : tie.Need-cast-allows-5
+cast-allows-5 c = search needs
 
 allows-requires-6 : tie.Need-allows-requires-6
 allows-requires-6 c κs = search needs
@@ -59,11 +68,11 @@ returns c =
       c .before .before .both3 .ensures,
       c .before .before .before .both2 .ensures,
       c .before .before .before .before .both .ensures,
-      tested .before .before .before .before .before .before .before .allows .ensures,
-      tested .before .before .before .before .before .before .allows2 .ensures,
-      tested .before .before .before .before .allows3 .ensures,
-      tested .before .before .before .allows4 .ensures,
-      tested .before .allows5 .ensures,
+      tested .before .before .before .before .before .before .before .before .before .allows .ensures,
+      tested .before .before .before .before .before .before .before .before .allows2 .ensures,
+      tested .before .before .before .before .before .before .allows3 .ensures,
+      tested .before .before .before .before .allows4 .ensures,
+      tested .before .before .allows5 .ensures,
       tested .allows6 .ensures,
     )
 
@@ -71,15 +80,18 @@ pub fits-spec : {M : Type 1} → statement M
 fits-spec =
     tie.close
     (tie.spec
+    cast-want
+    cast-ceiling
     cast-allows
     allows-requires
-    cast-allows-2
     allows-requires-2
-    cast-allows-3
+    cast-allows-2
     allows-requires-3
+    cast-allows-3
     allows-requires-4
     cast-allows-4
     allows-requires-5
+    cast-allows-5
     allows-requires-6
     both-requires
     both-requires-2

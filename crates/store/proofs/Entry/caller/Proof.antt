@@ -9,8 +9,8 @@ enum-known-self c = search needs
 caller-requires : tie.Need-caller-requires
 caller-requires c κs = search needs
 
-enum-told : tie.Need-enum-told
-enum-told c = search needs
+enum-known-self-2 : tie.Need-enum-known-self-2
+enum-known-self-2 c = search needs
 
 returns : tie.Need-returns
 returns c = rw (c .before .before .self .given .1) (c .caller .ensures)
@@ -19,4 +19,5 @@ returns-2 : tie.Need-returns-2
 returns-2 c = search needs
 
 pub caller-spec : {M : Type 1} → statement M
-caller-spec = tie.close (tie.spec enum-known-self caller-requires enum-told returns returns-2)
+caller-spec =
+    tie.close (tie.spec enum-known-self caller-requires enum-known-self-2 returns returns-2)

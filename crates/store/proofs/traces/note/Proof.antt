@@ -70,7 +70,7 @@ same-length c = search needs
 
 returns : tie.Need-returns
 returns c =
-    let at = c .before .before .before .before .before .args .at in
+    let at = c .before .before .before .before .before .before .args .at in
     let two : at + 2 ≡ suc (suc at) = omega arith in
     let three : at + 3 ≡ suc (suc (suc at)) = omega arith in
     let four : at + 4 ≡ suc (suc (suc (suc at))) = omega arith in
