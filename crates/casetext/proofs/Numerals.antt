@@ -10,7 +10,7 @@ use lib.Dec.{eqb, leb, ltb}
 use lib.ListN.{length, getD, drop, length-append}
 use lib.Seq.{drop-cons}
 use borrow.Author.Tests.{lt-ltb, le-ltb, le-leb, ltb-true, ltb-false, ne-eqb, eqb-true, eqb-false}
-use Rattle.casetext.specs.Numerals.{numeral, numeralWithin}
+use Rattle.casetext.specs.Numerals.{numeral, numeralWithin, pair, four}
 use Rattle.casetext.specs.Pieces.{isDigit, digitsFrom, numberAt}
 use Rattle.casetext.specs.declared.Found.the-variants.{Is}
 use borrow.Table.Steps.{cases as decide}
@@ -198,3 +198,26 @@ number-stands most s at {n} {next} e =
         let r = first-read most at b (drop (suc at) s) (omega arith) (g .1) (rw c at f) in
         stands-as s at next (numeral n) (b ∷ r .0) (drop (length (r .0)) (drop (suc at) s)) (r .2) (r .3)
         (c ∙ ap (λ (l : List ℕ). b ∷ l) (r .1))
+
+-- A numeral, split before its last digit, its last two or its last four.
+pub numeral-last : (n : ℕ) → 10 ≤ n → numeral n ≡ numeral (n / 10) ++ numeral (n % 10)
+numeral-last n h = rw (numeral-one (n % 10) (omega arith)) (numeral-more n h)
+
+pub numeral-pair : (n : ℕ) → 100 ≤ n → numeral n ≡ numeral (n / 100) ++ pair (n % 100)
+numeral-pair n h =
+    let a : n / 10 / 10 ≡ n / 100 = omega arith in
+    let b : n / 10 % 10 ≡ n % 100 / 10 = omega arith in
+    let d : n % 10 ≡ n % 100 % 10 = omega arith in
+    numeral-last n (omega arith) ∙ rw (numeral-last (n / 10) (omega arith), a, b, d) (append-assoc (numeral (n / 100)) (numeral (n % 100 / 10)) (numeral (n % 100 % 10)))
+
+pub numeral-four : (n : ℕ) → 10000 ≤ n → numeral n ≡ numeral (n / 10000) ++ four (n % 10000)
+numeral-four n h =
+    let a : n / 100 / 100 ≡ n / 10000 = omega arith in
+    let b : n / 100 % 100 ≡ n % 10000 / 100 = omega arith in
+    let d : n % 100 ≡ n % 10000 % 100 = omega arith in
+    numeral-pair n (omega arith) ∙ rw (numeral-pair (n / 100) (omega arith), a, b, d) (append-assoc (numeral (n / 10000)) (pair (n % 10000 / 100)) (pair (n % 10000 % 100)))
+
+pub numeral-eight : (n : ℕ) → 100000000 ≤ n → numeral n ≡ numeral (n / 100000000) ++ (four (n / 10000 % 10000) ++ four (n % 10000))
+numeral-eight n h =
+    let a : n / 10000 / 10000 ≡ n / 100000000 = omega arith in
+    numeral-four n (omega arith) ∙ rw (numeral-four (n / 10000) (omega arith), a) (append-assoc (numeral (n / 100000000)) (four (n / 10000 % 10000)) (four (n % 10000)))

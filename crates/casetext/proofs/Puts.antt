@@ -10,7 +10,6 @@ use lib.ListN.{length, take, drop, set, length-append, length-drop}
 use lib.Seq.{set-split, take-at, drop-at, drop-drop, length-take-le, take-length, paste}
 use lib.Dec.{ltb}
 use borrow.Author.Tests.{lt-ltb, ltb-true, ltb-false}
-use Rattle.io.specs.Digits.{digits, Fewest}
 use Rattle.casetext.specs.Numerals.{numeral}
 use Rattle.casetext.specs.Writing.{put, Room, Wrote}
 use borrow.Table.Steps.{cases as decide}
@@ -90,21 +89,6 @@ numeral-short (suc k) n h o =
     some : (k : ℕ) → n < 10 ^ suc k → 10 ≤ n → 1 ≤ k
     some zero h g = absurd (omega arith)
     some (suc k) h g = omega arith
-
--- the fewest digits that hold a number are its numeral
-pub digits-numeral : (k n : ℕ) → Fewest 10 1 n k → digits 10 k n ≡ numeral n
-digits-numeral zero n f = absurd (omega (arith, f .0))
-digits-numeral (suc zero) n f =
-    let h : n < 10 = omega (arith, f .1) in
-    let e : n % 10 ≡ n = omega arith in
-    rw (numeral-one n h, e, lt-ltb n 10 h)
-digits-numeral (suc (suc k)) n f =
-    let a : suc (suc k) - 1 ≡ suc k = omega arith in
-    let b : suc k - 1 ≡ k = omega arith in
-    let low : 10 ^ suc k ≤ n = rw a at (f .2 (omega arith)) in
-    let one = one-le-pow k 10 (omega arith) in
-    let ih = digits-numeral (suc k) (n / 10) (omega arith, omega (arith, f .1), λ h. rw b (omega arith)) in
-    rw (numeral-more n (omega arith), ← ih, lt-ltb (n % 10) 10 (omega arith))
 
 -- Four texts, one after the other.
 module _ {held : List ℕ} {at : ℕ} (w v u t : List ℕ) (room : Room held at (w ++ v ++ u ++ t)) where

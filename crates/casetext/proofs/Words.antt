@@ -16,10 +16,6 @@ use Rattle.casetext.proofs.Finding.{true-not-false}
 
 module _ (w s : List ℕ) (i at : ℕ) (more : i < length w) where
   -- nothing is left of the text
-  pub begins-end : length s ≤ at → begins (drop i w) (drop at s) ≡ false
-  unfolding begins
-  begins-end h = rw (drop-cons w i 0, drop-of-length-le s h)
-
   module _ (h : at < length s) where
     pub begins-differ : (getD s at 0 ≡ getD w i 0 → ⊥) → begins (drop i w) (drop at s) ≡ false
     unfolding begins
@@ -54,3 +50,10 @@ pub begins-room : (w s : List ℕ) (at : ℕ) → begins w (drop at s) ≡ true 
 begins-room w s at e =
     let h = ap length (begins-true w (drop at s) e) in
     omega (arith, simp (length-append, length-drop) at h)
+
+-- a text that is shorter than the word doesn't begin with it
+pub begins-short : (w s : List ℕ) (at : ℕ) → length s - at < length w → begins w (drop at s) ≡ false
+begins-short w s at h =
+    decide (begins w (drop at s))
+    (λ e. absurd (omega (arith, h, begins-room w s at e)))
+    (λ e. e)

@@ -14,3 +14,10 @@ numeralWithin (suc most) n =
 -- n has at most n + 1 digits.
 unfoldable pub numeral : ℕ → List ℕ
 numeral n = numeralWithin (suc n) n
+
+-- The two digits of a number below 100, and the four of one below 10,000, zeros in front among them.
+abbrev pub pair : ℕ → List ℕ
+pair n = numeral (n / 10) ++ numeral (n % 10)
+
+abbrev pub four : ℕ → List ℕ
+four n = pair (n / 100) ++ pair (n % 100)

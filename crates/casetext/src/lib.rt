@@ -11,7 +11,7 @@ pub use reader::read;
 pub use reporting::report;
 
 // What a reader finds at a place: a number, with the place past its text, or a text that breaks the layout.
-pub enum Found {
+pub(crate) enum Found {
     Is { value: u32, next: usize },
     Broken,
 }

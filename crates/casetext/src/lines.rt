@@ -28,7 +28,7 @@ fn line_end(text: &[u8], found: Found) -> Found
 }
 
 // A line of a word and a number.
-pub fn line(text: &[u8], at: usize, name: &[u8], most: u32) -> Found
+pub(crate) fn line(text: &[u8], at: usize, name: &[u8], most: u32) -> Found
     ensures { λ r. ⌜ r ≡ lineAt (now (name .entry)) most (now (text .entry)) at ⌝ }
 {
     line_end(text, field(text, at, name, most))
@@ -90,7 +90,7 @@ fn turn(text: &[u8], at: usize) -> Found
 }
 
 // A do line.
-pub fn do_line(text: &[u8], at: usize) -> Found
+pub(crate) fn do_line(text: &[u8], at: usize) -> Found
     ensures { λ r. ⌜ r ≡ doLineAt (now (text .entry)) at ⌝ }
 {
     if word(text, at, b"do=") {

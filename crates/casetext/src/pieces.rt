@@ -1,31 +1,36 @@
 // The pieces that lines are made of: a byte, a word and a decimal number, read at a place.
 ghost use mathlib.Core.Path.{_≡_};
 ghost use Prim.Native.Nat.{_+_, _-_, _*_, _≤_};
-ghost use lib.ListN.{getD, drop};
+ghost use lib.ListN.{length, getD, drop};
 ghost use Rattle.casetext.specs.Pieces.{begins, digitsFrom, numberAt, fieldAt};
 use crate::Found;
 
 // The byte at a place. Past the end it is 0, which no line has.
-pub fn byte(text: &[u8], at: usize) -> u8
+pub(crate) fn byte(text: &[u8], at: usize) -> u8
     ensures { λ r. ⌜ r ≡ getD (now (text .entry)) at 0 ⌝ }
 {
     if at < text.len() { text[at] } else { 0 }
 }
 
+// How many bytes there are from a place on.
+fn rest(text: &[u8], at: usize) -> usize
+    ensures { λ r. ⌜ r ≡ length (now (text .entry)) - at ⌝ }
+{
+    if at < text.len() { text.len() - at } else { 0 }
+}
+
 // Whether the text goes on with this word from a place.
-pub fn word(text: &[u8], at: usize, name: &[u8]) -> bool
+pub(crate) fn word(text: &[u8], at: usize, name: &[u8]) -> bool
     ensures { λ r. ⌜ r ≡ begins (now (name .entry)) (drop at (now (text .entry))) ⌝ }
 {
-    let mut next = at;
+    if rest(text, at) < name.len() {
+        return false;
+    }
     let mut i = 0;
     while i < name.len() {
-        if text.len() <= next {
+        if text[at + i] != name[i] {
             return false;
         }
-        if text[next] != name[i] {
-            return false;
-        }
-        next += 1;
         i += 1;
     }
     true
@@ -64,7 +69,7 @@ fn digits(text: &[u8], at: usize, most: u32) -> Found
 }
 
 // A decimal number of at most `most`, with no zero in front.
-pub fn number(text: &[u8], at: usize, most: u32) -> Found
+pub(crate) fn number(text: &[u8], at: usize, most: u32) -> Found
     ensures { λ r. ⌜ r ≡ numberAt most (now (text .entry)) at ⌝ }
 {
     let b = byte(text, at);
@@ -84,7 +89,7 @@ pub fn number(text: &[u8], at: usize, most: u32) -> Found
 }
 
 // A word and the number after it.
-pub fn field(text: &[u8], at: usize, name: &[u8], most: u32) -> Found
+pub(crate) fn field(text: &[u8], at: usize, name: &[u8], most: u32) -> Found
     ensures { λ r. ⌜ r ≡ fieldAt (now (name .entry)) most (now (text .entry)) at ⌝ }
 {
     if word(text, at, name) {

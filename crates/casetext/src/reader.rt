@@ -47,7 +47,7 @@ fn do_lines(text: &[u8], from: usize, claimants: u32, ceiling: u32, draft: &mut 
 }
 
 // A whole text, its entries into the first places of a draft.
-pub fn drafted(text: &[u8], draft: &mut [u32]) -> Reading
+pub(crate) fn drafted(text: &[u8], draft: &mut [u32]) -> Reading
     requires { ⌜ 2048 ≤ length (now draft) ⌝ }
     ensures { λ r. ⌜ r ≡ told (reading (now (text .entry))) ⌝ }
     ensures { λ _. ⌜ Drafted (reading (now (text .entry))) (now (draft .exit)) ⌝ }

@@ -1,7 +1,10 @@
 // What `boardcase` prints, as bytes.
 ghost use mathlib.Core.Path.{_≡_};
 ghost use Prim.Native.Nat.{_*_, _≤_};
+ghost use mathlib.Core.List.{_++_};
 ghost use lib.ListN.{length};
+ghost use Rattle.casetext.specs.Words.{ascii};
+ghost use Rattle.casetext.specs.Layout.{fieldText};
 ghost use Rattle.casetext.specs.Writing.{Room, Wrote};
 ghost use Rattle.casetext.specs.Reading.Said.{accepted};
 ghost use Rattle.casetext.specs.Report.{entryText, refusalText, runText, saidText, reported, reportRow};
@@ -11,7 +14,17 @@ use crate::reader::drafted;
 use crate::writing::put_field;
 use crate::writing::put_fields;
 use crate::writing::put_line;
+use crate::writing::put_long_field;
 use store::Outcome;
+
+// A do line's number, which has several digits in most lines, and its claimant.
+fn put_heading(out: &mut [u8], at: usize, number: u32, who: u32) -> usize
+    requires { ⌜ Room (now out) at (fieldText (ascii "at=") number ++ fieldText (ascii " who=") who) ⌝ }
+    ensures { λ r. ⌜ Wrote (now (out .entry)) at (fieldText (ascii "at=") number ++ fieldText (ascii " who=") who) r (now (out .exit)) ⌝ }
+{
+    let next = put_long_field(out, at, b"at=", number);
+    put_field(out, next, b" who=", who)
+}
 
 // A do line's report. `left` has the five numbers that its entry left.
 fn put_entry(out: &mut [u8], at: usize, number: u32, entry: u32, left: &[u32]) -> usize
@@ -19,7 +32,7 @@ fn put_entry(out: &mut [u8], at: usize, number: u32, entry: u32, left: &[u32]) -
     requires { ⌜ Room (now out) at (entryText number entry (now left)) ⌝ }
     ensures { λ r. ⌜ Wrote (now (out .entry)) at (entryText number entry (now (left .entry))) r (now (out .exit)) ⌝ }
 {
-    let who = put_fields(out, at, b"at=", number, b" who=", entry / 65536 % 256);
+    let who = put_heading(out, at, number, entry / 65536 % 256);
     let session = put_fields(out, who, b" place=", left[0], b" session=", left[1]);
     let token = put_fields(out, session, b" raised=", left[2], b" token=", left[3]);
     put_line(out, token, b" answer=", left[4])
@@ -77,7 +90,10 @@ fn put_case(out: &mut [u8], claimants: u32, ceiling: u32, entries: &[u32]) -> us
     requires { ⌜ Room (now out) 0 (saidText (accepted claimants ceiling (now entries))) ⌝ }
     ensures { λ r. ⌜ Wrote (now (out .entry)) 0 (saidText (accepted claimants ceiling (now (entries .entry)))) r (now (out .exit)) ⌝ }
 {
-    if entries.len() <= 128 {
+    if entries.len() <= 12 {
+        let mut left = [0u32; 60];
+        put_trial(out, claimants, ceiling, entries, &mut left)
+    } else if entries.len() <= 128 {
         let mut left = [0u32; 640];
         put_trial(out, claimants, ceiling, entries, &mut left)
     } else {

@@ -19,17 +19,18 @@ impl Entry {
         let kind = number / 16777216;
         let who = number / 65536 % 256;
         let session = (number % 65536) as u16;
+        if kind == 0 {
+            if session == 0 {
+                return Entry::Made(Call::Step { who });
+            }
+        }
         if kind == 1 {
             return Entry::Made(Call::Ask { who, session });
         }
-        if session != 0 {
-            return Entry::Barred { who, refusal: 9 };
-        }
-        if kind == 0 {
-            return Entry::Made(Call::Step { who });
-        }
         if kind == 2 {
-            return Entry::Made(Call::Leave { who });
+            if session == 0 {
+                return Entry::Made(Call::Leave { who });
+            }
         }
         Entry::Barred { who, refusal: 9 }
     }
