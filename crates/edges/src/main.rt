@@ -1,5 +1,6 @@
-// Runs the situations at the limits of document 01 through the reader and the report, a line each: N = 64 and 65, texts of 32,768
-// and 32,769 bytes, 2,048 and 2,049 do lines. The texts are built here, so that nothing but the limits differs.
+// Runs the situations at the limits of document 01 through the reader and the report: N = 64 and 65, texts of 32,768 and 32,769
+// bytes, 2,048 and 2,049 do lines. Of each it prints the text's length, what the reader gives back, the report's length, and the
+// report's last three lines; the report of a refusal is one line. The texts are built here, so that nothing but the limits differs.
 ghost use Prim.Native.Nat.{_≤_};
 ghost use lib.ListN.{length};
 ghost use Rattle.io.specs.Counts.{Counts};
@@ -98,73 +99,86 @@ fn last_line(row: &[u8], bytes: usize) -> usize
     at
 }
 
-// How long the report is, and its last line.
+// Where its last three lines begin, or its first where there are no more.
+fn last_lines(row: &[u8], bytes: usize) -> usize
+    requires { ⌜ bytes ≤ length (now row) ⌝ }
+    ensures { λ r. ⌜ r ≤ bytes ⌝ }
+{
+    let third = last_line(row, bytes);
+    let second = last_line(row, third);
+    last_line(row, second)
+}
+
+// How long the report is, and its last lines.
 fn tell_report(text: &[u8]) {
     let mut out = [0u8; 153609];
     let came = casetext::report(text, &mut out);
     if let Reported::Printed(bytes) = came {
         number(b"; report bytes=", bytes as u64);
-        say(b" ending ");
-        let from = last_line(&out, bytes);
+        say(b" ending\n");
+        let from = last_lines(&out, bytes);
         say(&out[from..bytes]);
     }
 }
 
 fn tell(name: &[u8], text: &[u8]) {
     say(name);
+    number(b" bytes=", text.len() as u64);
     tell_reading(text);
     tell_report(text);
 }
 
-fn main() {
+// Builds a text, and tells what comes of it.
+fn case(name: &[u8], head: &[u8], line: &[u8], times: usize, tail: &[u8]) {
     let mut text = [0u8; 40000];
+    let n = build(&mut text, head, line, times, tail);
+    tell(name, &text[..n]);
+}
+
+fn main() {
     // Claimant 64 of 64 is inside after 3 * 64 + 5 steps, and leaves.
-    let n = build(
-        &mut text,
+    case(
+        b"N = 64:",
         b"claimants=64\nceiling=1\ndo=ask 64 7\n",
         b"do=step 64\n",
         197,
         b"do=leave 64\n",
     );
-    tell(b"N = 64:", &text[..n]);
-    let n = build(
-        &mut text,
+    case(
+        b"N = 65:",
         b"claimants=65\nceiling=1\ndo=ask 64 7\n",
         b"do=step 64\n",
         197,
         b"do=leave 64\n",
     );
-    tell(b"N = 65:", &text[..n]);
-    let n = build(
-        &mut text,
-        b"claimants=1\nceiling=1\n",
+    // There is no claimant 10; the last line has claimant 1 sign.
+    case(
+        b"32768 bytes:",
+        b"claimants=1\nceiling=10\ndo=ask 1 10000\n",
         b"do=ask 10 10000\n",
-        2046,
+        2045,
         b"do=step 1\n",
     );
-    tell(b"32768 bytes:", &text[..n]);
-    let n = build(
-        &mut text,
-        b"claimants=1\nceiling=1\n",
+    case(
+        b"32769 bytes:",
+        b"claimants=1\nceiling=100\ndo=ask 1 10000\n",
         b"do=ask 10 10000\n",
-        2046,
-        b"do=step 10\n",
+        2045,
+        b"do=step 1\n",
     );
-    tell(b"32769 bytes:", &text[..n]);
-    let n = build(
-        &mut text,
-        b"claimants=1\nceiling=1\n",
+    // Claimant 1 is inside after 8 steps, where the later ones are refused, and leaves in the last line.
+    case(
+        b"2048 do lines:",
+        b"claimants=1\nceiling=1\ndo=ask 1 7\n",
+        b"do=step 1\n",
+        2046,
+        b"do=leave 1\n",
+    );
+    case(
+        b"2049 do lines:",
+        b"claimants=1\nceiling=1\ndo=ask 1 7\n",
         b"do=step 1\n",
         2047,
-        b"do=step 1\n",
+        b"do=leave 1\n",
     );
-    tell(b"2048 do lines:", &text[..n]);
-    let n = build(
-        &mut text,
-        b"claimants=1\nceiling=1\n",
-        b"do=step 1\n",
-        2048,
-        b"do=step 1\n",
-    );
-    tell(b"2049 do lines:", &text[..n]);
 }

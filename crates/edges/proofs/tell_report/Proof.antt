@@ -26,11 +26,11 @@ slice-aggregate-say c = search needs
 say-requires : tie.Need-say-requires
 say-requires c κs = search needs
 
-slice-aggregate-last-line : tie.Need-slice-aggregate-last-line
-slice-aggregate-last-line c = search needs
+slice-aggregate-last-lines : tie.Need-slice-aggregate-last-lines
+slice-aggregate-last-lines c = search needs
 
-last-line-requires : tie.Need-last-line-requires
-last-line-requires c κs =
+last-lines-requires : tie.Need-last-lines-requires
+last-lines-requires c κs =
     let r = c .before .before .before .before .before .before .before .before .before .report in
     rw (r .kept .1 .0) (report-within _ _ (sym (r .ensures .0) ∙ c .before .before .before .before .before .before .came .given .1))
 
@@ -68,8 +68,8 @@ tell-report-spec =
     number-requires
     slice-aggregate-say
     say-requires
-    slice-aggregate-last-line
-    last-line-requires
+    slice-aggregate-last-lines
+    last-lines-requires
     sub-say
     part-say-start
     part-say-end
