@@ -12,7 +12,7 @@ cast-session c = search needs
 
 returns : tie.Need-returns
 unfolding decoded
-returns c = rw (c .before .if1 .taken, c .if2 .taken)
+returns c = rw (c .if2 .taken, c .before .if1 .taken)
 
 returns-2 : tie.Need-returns-2
 unfolding decoded
@@ -20,11 +20,11 @@ returns-2 c = rw (c .if3 .taken)
 
 returns-3 : tie.Need-returns-3
 unfolding decoded
-returns-3 c = rw (c .before .if4 .taken, c .if5 .taken)
+returns-3 c = rw (c .if5 .taken, c .before .if4 .taken)
 
 returns-4 : tie.Need-returns-4
 unfolding decoded
-returns-4 c = rw (c .before .if4 .taken, ne-eqb _ _ (c .if5 .left))
+returns-4 c = rw (ne-eqb _ _ (c .if5 .left), c .before .if4 .taken)
 
 returns-5 : tie.Need-returns-5
 unfolding decoded
