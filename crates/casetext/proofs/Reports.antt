@@ -23,6 +23,7 @@ use Rattle.casetext.specs.Writing.{Room, Wrote}
 use Rattle.casetext.specs.Report.{entryText, entriesText, refusalText, runText, openedText, saidText, printed, reported, reportRow}
 use Rattle.casetext.specs.declared.Reading.the-variants.{Case, Refused}
 use Rattle.casetext.specs.declared.Reported.the-variants.{Printed, Short}
+use Rattle.casetext.specs.Promises.{PrintedWithin}
 use Rattle.casetext.proofs.Promises.{accepted-exactly, refused-exactly}
 use Rattle.casetext.proofs.Lengths.{cause-small, case-few, report-fits}
 
@@ -104,10 +105,10 @@ module _ (s : List ℕ) {out w : List ℕ} (p : printed s ≡ w) (long : 153609 
   report-is q =
       rw (le-ltb (length out) 153609 long, p) (ap Printed (q .ends ∙ zero-add (length w)), q .row)
 
--- What was printed lies within the row, for callers that hand it on.
-pub report-within : (out s : List ℕ) {bytes : ℕ} → reported out s ≡ Printed bytes → bytes ≤ length out
+-- For callers that hand on what was printed.
+pub printed-within : PrintedWithin
 unfolding reported
-report-within out s {bytes} e =
+printed-within out s bytes e =
     decide (ltb (length out) 153609)
     (λ t.
     let f : Short ≡ Printed bytes = rw t at e in

@@ -11,7 +11,8 @@ use Rattle.casetext.specs.Layout.{Turn, InRange, AllInRange, entryOf, ca
 use Rattle.casetext.specs.Layout.Turn.{step}
 use Rattle.casetext.specs.Reading.{reading, readInto, told, rowAfter}
 use Rattle.casetext.specs.Answers.{readingNumber, readingLine, readingValues}
-use Rattle.casetext.specs.Report.{printed, reportBytes}
+use Rattle.casetext.specs.Report.{printed, reportBytes, reported}
+use Rattle.casetext.specs.declared.Reported.the-variants.{Printed}
 use Rattle.casetext.specs.Reading.Said.{accepted, refused}
 
 -- A text that is a case: short enough, in the layout, with at most 2,048 do lines. The entries are those of its turns.
@@ -107,6 +108,10 @@ EntriesMade =
 -- No report is longer than the row that every report fits.
 abbrev pub ReportFits : Type 0
 ReportFits = (s : List ℕ) → length (printed s) ≤ reportBytes
+
+-- What was printed lies within the row that was lent.
+abbrev pub PrintedWithin : Type 0
+PrintedWithin = (row s : List ℕ) (bytes : ℕ) → reported row s ≡ Printed bytes → bytes ≤ length row
 
 -- Something is always printed.
 abbrev pub PrintsSomething : Type 0

@@ -20,7 +20,7 @@ use Rattle.rules.specs.declared.Answer.the-variants.{Refused}
 use Rattle.rules.proofs.Choices.{decide, within-true, within-holds}
 use Rattle.rules.proofs.Calls.{called-here, called-elsewhere}
 use Rattle.rules.proofs.Rows.{own-row}
-use Rattle.rules.proofs.Keeping.{sound-called}
+use Rattle.rules.proofs.Laws.{call-keeps-sound}
 use Rattle.store.specs.declared.Entry.{Entry}
 use Rattle.store.specs.declared.Entry.the-variants.{Made, Barred}
 use Rattle.store.specs.Entries.{written, callerOf, turnIn}
@@ -92,5 +92,5 @@ entered-on {n} {k} {t} e s = entered-is k e t (rw (s .length-is) s)
 -- An entry keeps the table sound.
 pub sound-entered : {n : ℕ} {k : Terms} {t : Table} (e : Entry) → Sound n k t → Sound n k (entered k e t .table)
 unfolding entered
-sound-entered (Made c) s = sound-called c s
+sound-entered {n} {k} {t} (Made c) s = call-keeps-sound n k c t s
 sound-entered (Barred w r) s = s

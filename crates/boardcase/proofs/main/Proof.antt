@@ -2,7 +2,7 @@
 use borrow.Author.Needs.{needs}
 use mathlib.Core.Path.{sym, _∙_}
 use lib.Seq.{length-take-le}
-use Rattle.casetext.proofs.Reports.{report-within}
+use Rattle.casetext.proofs.Reports.{printed-within}
 use Rattle.boardcase.proofs.main.Statement.{statement}
 use Rattle.boardcase.proofs.main.Tie as tie
 
@@ -30,12 +30,12 @@ enum-known-came c = search needs
 array-share-prefix-out : tie.Need-array-share-prefix-out
 array-share-prefix-out c =
     let r = c .before .before .before .before .report in
-    rw (r .kept .1 .0) (report-within _ _ (sym (r .ensures .0) ∙ c .before .came .given .1))
+    rw (r .kept .1 .0) (printed-within _ _ _ (sym (r .ensures .0) ∙ c .before .came .given .1))
 
 slice-aggregate-write-all : tie.Need-slice-aggregate-write-all
 slice-aggregate-write-all c =
     let r = c .before .before .before .before .before .report in
-    sym (length-take-le _ (r .last .1 .0) (rw (r .kept .1 .0) (report-within _ _ (sym (r .ensures .0) ∙ c .before .before .came .given .1))))
+    sym (length-take-le _ (r .last .1 .0) (rw (r .kept .1 .0) (printed-within _ _ _ (sym (r .ensures .0) ∙ c .before .before .came .given .1))))
 
 write-all-requires : tie.Need-write-all-requires
 write-all-requires c κs = search needs

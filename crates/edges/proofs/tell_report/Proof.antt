@@ -1,7 +1,7 @@
 -- `edges::tell_report` meets its contract, which says nothing: what was printed lies within the row. Assumes nothing.
 use borrow.Author.Needs.{needs}
 use mathlib.Core.Path.{sym, _∙_}
-use Rattle.casetext.proofs.Reports.{report-within}
+use Rattle.casetext.proofs.Reports.{printed-within}
 use Rattle.edges.proofs.tell_report.Statement.{statement}
 use Rattle.edges.proofs.tell_report.Tie as tie
 
@@ -32,7 +32,7 @@ slice-aggregate-last-lines c = search needs
 last-lines-requires : tie.Need-last-lines-requires
 last-lines-requires c κs =
     let r = c .before .before .before .before .before .before .before .before .before .report in
-    rw (r .kept .1 .0) (report-within _ _ (sym (r .ensures .0) ∙ c .before .before .before .before .before .before .came .given .1))
+    rw (r .kept .1 .0) (printed-within _ _ _ (sym (r .ensures .0) ∙ c .before .before .before .before .before .before .came .given .1))
 
 sub-say : tie.Need-sub-say
 sub-say c = search needs
@@ -43,7 +43,7 @@ part-say-start c = search needs
 part-say-end : tie.Need-part-say-end
 part-say-end c =
     let r = c .before .before .before .before .before .before .before .before .before .before .before .report in
-    rw (r .kept .1 .0) (report-within _ _ (sym (r .ensures .0) ∙ c .before .before .before .before .before .before .before .before .came .given .1))
+    rw (r .kept .1 .0) (printed-within _ _ _ (sym (r .ensures .0) ∙ c .before .before .before .before .before .before .before .before .came .given .1))
 
 say-requires-2 : tie.Need-say-requires-2
 say-requires-2 c κs = search needs
