@@ -99,25 +99,21 @@ fn last_line(row: &[u8], bytes: usize) -> usize
     at
 }
 
-// Where its last three lines begin, or its first where there are no more.
-fn last_lines(row: &[u8], bytes: usize) -> usize
-    requires { ⌜ bytes ≤ length (now row) ⌝ }
-    ensures { λ r. ⌜ r ≤ bytes ⌝ }
-{
-    let third = last_line(row, bytes);
-    let second = last_line(row, third);
-    last_line(row, second)
+// How long a report is, and its last three lines, or all where there are no more.
+fn tell_printed(report: &[u8]) {
+    number(b"; report bytes=", report.len() as u64);
+    say(b" ending\n");
+    let third = last_line(report, report.len());
+    let second = last_line(report, third);
+    let first = last_line(report, second);
+    say(&report[first..]);
 }
 
-// How long the report is, and its last lines.
 fn tell_report(text: &[u8]) {
     let mut out = [0u8; 153609];
     let came = casetext::report(text, &mut out);
     if let Reported::Printed(bytes) = came {
-        number(b"; report bytes=", bytes as u64);
-        say(b" ending\n");
-        let from = last_lines(&out, bytes);
-        say(&out[from..bytes]);
+        tell_printed(&out[..bytes]);
     }
 }
 
@@ -130,13 +126,13 @@ fn tell(name: &[u8], text: &[u8]) {
 
 // Builds a text, and tells what comes of it.
 fn case(name: &[u8], head: &[u8], line: &[u8], times: usize, tail: &[u8]) {
-    let mut text = [0u8; 40000];
+    let mut text = [0u8; 32769];
     let n = build(&mut text, head, line, times, tail);
     tell(name, &text[..n]);
 }
 
-fn main() {
-    // Claimant 64 of 64 is inside after 3 * 64 + 5 steps, and leaves.
+// 64 claimants, and one more. Claimant 64 of 64 is inside after 3 * 64 + 5 steps, and leaves.
+fn claimants() {
     case(
         b"N = 64:",
         b"claimants=64\nceiling=1\ndo=ask 64 7\n",
@@ -151,7 +147,10 @@ fn main() {
         197,
         b"do=leave 64\n",
     );
-    // There is no claimant 10; the last line has claimant 1 sign.
+}
+
+// The longest text, and one byte more. There is no claimant 10; the last line has claimant 1 sign.
+fn bytes() {
     case(
         b"32768 bytes:",
         b"claimants=1\nceiling=10\ndo=ask 1 10000\n",
@@ -166,7 +165,11 @@ fn main() {
         2045,
         b"do=step 1\n",
     );
-    // Claimant 1 is inside after 8 steps, where the later ones are refused, and leaves in the last line.
+}
+
+// The longest schedule, and one entry more. Claimant 1 is inside after 8 steps, where the later ones are refused, and leaves in the
+// last line.
+fn do_lines() {
     case(
         b"2048 do lines:",
         b"claimants=1\nceiling=1\ndo=ask 1 7\n",
@@ -181,4 +184,10 @@ fn main() {
         2047,
         b"do=leave 1\n",
     );
+}
+
+fn main() {
+    claimants();
+    bytes();
+    do_lines();
 }

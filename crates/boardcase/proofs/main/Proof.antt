@@ -1,13 +1,15 @@
 -- `boardcase::main` meets its contract, which says nothing: a call of it is safe and ends. What was printed lies within the row. Assumes nothing.
 use borrow.Author.Needs.{needs}
 use mathlib.Core.Path.{sym, _∙_}
+use Prim.Native.Nat.{ℕ}
+use lib.ListN.{length-replicate}
 use lib.Seq.{length-take-le}
 use Rattle.casetext.proofs.Reports.{printed-within}
 use Rattle.boardcase.proofs.main.Statement.{statement}
 use Rattle.boardcase.proofs.main.Tie as tie
 
 slice-aggregate-read-full : tie.Need-slice-aggregate-read-full
-slice-aggregate-read-full c = search needs
+slice-aggregate-read-full c = sym (length-replicate {A = ℕ} 32769 0)
 
 read-full-requires : tie.Need-read-full-requires
 read-full-requires c κs = search needs
@@ -19,13 +21,13 @@ slice-aggregate-report : tie.Need-slice-aggregate-report
 slice-aggregate-report c = search needs
 
 slice-aggregate-report-2 : tie.Need-slice-aggregate-report-2
-slice-aggregate-report-2 c = search needs
+slice-aggregate-report-2 c = sym (length-replicate {A = ℕ} 153609 0)
 
 report-requires : tie.Need-report-requires
 report-requires c κs = search needs
 
 enum-known-came : tie.Need-enum-known-came
-enum-known-came c = search needs
+enum-known-came c = c .match .keys1
 
 array-share-prefix-out : tie.Need-array-share-prefix-out
 array-share-prefix-out c =
@@ -41,7 +43,7 @@ write-all-requires : tie.Need-write-all-requires
 write-all-requires c κs = search needs
 
 enum-told : tie.Need-enum-told
-enum-told c = search needs
+enum-told c = c .match .keys2
 
 returns : tie.Need-returns
 returns c = search needs
