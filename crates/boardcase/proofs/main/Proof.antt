@@ -1,7 +1,8 @@
 -- `boardcase::main` meets its contract, which says nothing: a call of it is safe and ends. What was printed lies within the row. Assumes nothing.
+-- Where a search would count the elements of a row one by one, the proof is given.
 use borrow.Author.Needs.{needs}
-use mathlib.Core.Path.{sym, _∙_}
 use Prim.Native.Nat.{ℕ}
+use mathlib.Core.Path.{sym, _∙_}
 use lib.ListN.{length-replicate}
 use lib.Seq.{length-take-le}
 use Rattle.casetext.proofs.Reports.{printed-within}

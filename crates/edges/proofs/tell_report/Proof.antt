@@ -1,4 +1,5 @@
 -- `edges::tell_report` meets its contract, which says nothing: what was printed lies within the row. Assumes nothing.
+-- Where a search would count the elements of the row one by one, the proof is given.
 use borrow.Author.Needs.{needs}
 use Prim.Native.Nat.{ℕ}
 use mathlib.Core.Path.{sym, _∙_}
@@ -8,7 +9,6 @@ use Rattle.casetext.proofs.Reports.{printed-within}
 use Rattle.edges.proofs.tell_report.Statement.{statement}
 use Rattle.edges.proofs.tell_report.Tie as tie
 
--- As in `boardcase::main`: where a search would count the row, the proof is given.
 slice-aggregate-report : tie.Need-slice-aggregate-report
 slice-aggregate-report c = sym (length-replicate {A = ℕ} 153609 0)
 
