@@ -110,7 +110,7 @@ pub(crate) fn put_field(out: &mut [u8], at: usize, name: &[u8], n: u32) -> usize
     put_number(out, next, n)
 }
 
-// A word with a number that has several digits in most texts.
+// The same, without the test for a single digit: for a number that has several in most texts.
 pub(crate) fn put_long_field(out: &mut [u8], at: usize, name: &[u8], n: u32) -> usize
     requires { ⌜ Room (now out) at (fieldText (now name) n) ⌝ }
     ensures { λ r. ⌜ Wrote (now (out .entry)) at (fieldText (now (name .entry)) n) r (now (out .exit)) ⌝ }

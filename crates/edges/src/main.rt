@@ -124,9 +124,9 @@ fn tell(name: &[u8], text: &[u8]) {
     tell_report(text);
 }
 
-// Builds a text, and tells what comes of it.
+// Builds a text, and tells what comes of it. There is room for a byte more than the longest one has, so that its length isn't the row's.
 fn case(name: &[u8], head: &[u8], line: &[u8], times: usize, tail: &[u8]) {
-    let mut text = [0u8; 32769];
+    let mut text = [0u8; 32770];
     let n = build(&mut text, head, line, times, tail);
     tell(name, &text[..n]);
 }
