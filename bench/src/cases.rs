@@ -1,4 +1,4 @@
-//! The case texts that are measured.
+//! What is measured: reports of case texts, and case texts written.
 
 use model::casetext::{self, MOST_BYTES, MOST_DO_LINES};
 use model::claimant::{place::*, Claimant};
@@ -9,35 +9,68 @@ pub struct Case {
     pub name: &'static str,
     /// For the table.
     pub what: &'static str,
-    pub text: Vec<u8>,
-    /// How many entries are run.
+    pub job: Job,
+    /// How many bytes the case text has that is read or written.
+    pub bytes: usize,
+    /// How many entries are run or written.
     pub entries: usize,
+}
+
+/// What one call does.
+pub enum Job {
+    /// The report of a case text.
+    Report(Vec<u8>),
+    /// The case text of a schedule.
+    Write {
+        claimants: u32,
+        ceiling: u32,
+        schedule: Vec<u32>,
+    },
 }
 
 pub fn all() -> Vec<Case> {
     let most = MOST_DO_LINES;
     vec![
-        case("n2", "long schedule, N = 2", schedule(2, most)),
-        case("n8", "long schedule, N = 8", schedule(8, most)),
-        case("n64", "long schedule, N = 64", schedule(64, most)),
-        case("largest", "the largest case text", largest()),
-        case(
+        report("n2", "long schedule, N = 2", schedule(2, most)),
+        report("n8", "long schedule, N = 8", schedule(8, most)),
+        report("n64", "long schedule, N = 64", schedule(64, most)),
+        report("largest", "the largest case text", largest()),
+        report(
             "reader",
             "a line too many (reader alone)",
             schedule(8, most + 1),
         ),
-        case("listing", "document 01's listing", listing()),
+        report("listing", "document 01's listing", listing()),
+        write("write-n8", "write: long schedule, N = 8", schedule(8, most)),
+        write("write-largest", "write: the largest case text", largest()),
     ]
 }
 
-fn case(name: &'static str, what: &'static str, text: Vec<u8>) -> Case {
+fn report(name: &'static str, what: &'static str, text: Vec<u8>) -> Case {
     let mut entries = [0; MOST_DO_LINES];
-    let entries = casetext::read(&text, &mut entries).map_or(0, |case| case.entries);
     Case {
         name,
         what,
-        text,
-        entries,
+        bytes: text.len(),
+        entries: casetext::read(&text, &mut entries).map_or(0, |case| case.entries),
+        job: Job::Report(text),
+    }
+}
+
+/// Writing a text again, from what it says.
+fn write(name: &'static str, what: &'static str, text: Vec<u8>) -> Case {
+    let mut entries = [0; MOST_DO_LINES];
+    let case = casetext::read(&text, &mut entries).expect("a good text");
+    Case {
+        name,
+        what,
+        bytes: text.len(),
+        entries: case.entries,
+        job: Job::Write {
+            claimants: case.claimants,
+            ceiling: case.ceiling,
+            schedule: entries[..case.entries].to_vec(),
+        },
     }
 }
 
@@ -117,7 +150,10 @@ mod tests {
     fn the_long_schedules_get_claimants_inside_and_make_them_wait() {
         let mut long = 0;
         for case in all().iter().filter(|case| case.entries == MOST_DO_LINES) {
-            let report = String::from_utf8(model::report(&case.text)).unwrap();
+            let Job::Report(text) = &case.job else {
+                continue;
+            };
+            let report = String::from_utf8(model::report(text)).unwrap();
             let answers = |answer: &str| report.matches(&format!("answer={answer}\n")).count();
             long += 1;
             if case.name != "largest" {

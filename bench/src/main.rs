@@ -1,5 +1,5 @@
 //! How fast the proved library is beside the model, both from case text to
-//! report and both without allocating.
+//! report or from schedule to case text, and both without allocating.
 //!
 //!     bench [ROUNDS]               a table of times and ratios
 //!     bench --growth               how the library's time grows
@@ -11,47 +11,82 @@
 
 mod cases;
 
-use cases::Case;
+use cases::{Case, Job};
+use model::casetext;
 use std::env;
 use std::hint::black_box;
 use std::process::ExitCode;
 use std::time::{Duration, Instant};
 
-/// What is measured: one report into a row or vector that is there already.
-/// The names are kept for callgrind, which counts only what they call.
+/// What a call writes into, which is there already: the model puts a report
+/// onto a vector, and all else goes into a row.
+struct Out {
+    vector: Vec<u8>,
+    row: Vec<u8>,
+}
+
+impl Out {
+    /// Takes any report and any case text; it is touched, so that it is there.
+    fn new() -> Out {
+        Out {
+            vector: vec![1; colliemist::REPORT_BYTES],
+            row: vec![1; colliemist::REPORT_BYTES],
+        }
+    }
+}
+
+/// What is measured: one call, which gives back what it wrote; nothing if it
+/// was refused. The names are kept for callgrind, which counts only what they
+/// call.
 #[no_mangle]
 #[inline(never)]
-pub extern "C" fn measured_model(text: &&[u8], out: &mut Vec<u8>) -> usize {
-    out.clear();
-    model::report::report_onto(out, text);
-    out.len()
+fn measured_model<'a>(job: &Job, out: &'a mut Out) -> &'a [u8] {
+    match job {
+        Job::Report(text) => {
+            out.vector.clear();
+            model::report::report_onto(&mut out.vector, text);
+            &out.vector
+        }
+        Job::Write {
+            claimants,
+            ceiling,
+            schedule,
+        } => {
+            let length = casetext::write(*claimants, *ceiling, schedule, &mut out.row);
+            &out.row[..length.unwrap_or(0)]
+        }
+    }
 }
 
 #[no_mangle]
 #[inline(never)]
-pub extern "C" fn measured_library(text: &&[u8], out: &mut Vec<u8>) -> usize {
-    colliemist::report_into(text, out).map_or(0, <[u8]>::len)
+fn measured_library<'a>(job: &Job, out: &'a mut Out) -> &'a [u8] {
+    match job {
+        Job::Report(text) => colliemist::report_into(text, &mut out.row).unwrap_or_default(),
+        Job::Write {
+            claimants,
+            ceiling,
+            schedule,
+        } => {
+            colliemist::write_into(*claimants, *ceiling, schedule, &mut out.row).unwrap_or_default()
+        }
+    }
 }
 
-type Side = extern "C" fn(&&[u8], &mut Vec<u8>) -> usize;
-
-/// A row that takes any report.
-fn row() -> Vec<u8> {
-    vec![0; colliemist::REPORT_BYTES]
-}
+type Side = for<'a> fn(&Job, &'a mut Out) -> &'a [u8];
 
 /// The time of one call, taken over so many.
-fn time(side: Side, text: &[u8], out: &mut Vec<u8>, calls: u32) -> Duration {
+fn time(side: Side, job: &Job, out: &mut Out, calls: u32) -> Duration {
     let start = Instant::now();
     for _ in 0..calls {
-        black_box(side(black_box(&text), black_box(out)));
+        black_box(side(black_box(job), black_box(out)));
     }
     start.elapsed() / calls
 }
 
 /// How many calls take about a millisecond.
-fn calls_a_millisecond(side: Side, text: &[u8], out: &mut Vec<u8>) -> u32 {
-    let once = time(side, text, out, 3).max(Duration::from_nanos(1));
+fn calls_a_millisecond(side: Side, job: &Job, out: &mut Out) -> u32 {
+    let once = time(side, job, out, 3).max(Duration::from_nanos(1));
     (Duration::from_millis(1).as_nanos() / once.as_nanos()).clamp(1, 100_000) as u32
 }
 
@@ -72,81 +107,91 @@ fn micros(time: Duration) -> f64 {
     time.as_nanos() as f64 / 1_000.0
 }
 
-/// Whether both sides say the same of a case; otherwise times mean nothing.
+/// Whether both sides write the same for a case; otherwise times mean nothing.
 fn same(case: &Case) -> bool {
-    let (mut ours, mut theirs) = (Vec::new(), row());
-    measured_model(&&case.text[..], &mut ours);
-    let length = measured_library(&&case.text[..], &mut theirs);
-    ours == theirs[..length]
+    let (mut ours, mut theirs) = (Out::new(), Out::new());
+    let model = measured_model(&case.job, &mut ours);
+    !model.is_empty() && model == measured_library(&case.job, &mut theirs)
+}
+
+/// The times of each case, the model's and the library's.
+fn times(cases: &[Case], rounds: usize) -> Vec<(Vec<Duration>, Vec<Duration>)> {
+    let (mut ours, mut theirs) = (Out::new(), Out::new());
+    let calls: Vec<(u32, u32)> = cases
+        .iter()
+        .map(|case| {
+            (
+                calls_a_millisecond(measured_model, &case.job, &mut ours),
+                calls_a_millisecond(measured_library, &case.job, &mut theirs),
+            )
+        })
+        .collect();
+    let mut times = vec![(Vec::new(), Vec::new()); cases.len()];
+    for _ in 0..rounds {
+        for ((case, calls), times) in cases.iter().zip(&calls).zip(&mut times) {
+            let model = time(measured_model, &case.job, &mut ours, calls.0);
+            let library = time(measured_library, &case.job, &mut theirs, calls.1);
+            times.0.push(model);
+            times.1.push(library);
+        }
+    }
+    times
 }
 
 fn compare(rounds: usize) -> bool {
     let cases = cases::all();
-    let mut times = vec![(Vec::new(), Vec::new()); cases.len()];
-    let (mut ours, mut theirs) = (row(), row());
-    let mut calls = Vec::new();
-    for case in &cases {
-        if !same(case) {
-            println!("bench: FAILED: the sides differ on {}", case.name);
-            return false;
-        }
-        calls.push((
-            calls_a_millisecond(measured_model, &case.text, &mut ours),
-            calls_a_millisecond(measured_library, &case.text, &mut theirs),
-        ));
+    if let Some(case) = cases.iter().find(|case| !same(case)) {
+        println!("bench: FAILED: the sides differ on {}", case.name);
+        return false;
     }
-    for _ in 0..rounds {
-        for (at, case) in cases.iter().enumerate() {
-            times[at]
-                .0
-                .push(time(measured_model, &case.text, &mut ours, calls[at].0));
-            times[at]
-                .1
-                .push(time(measured_library, &case.text, &mut theirs, calls[at].1));
-        }
-    }
-    println!(
-        "One report, from case text to printed bytes; {rounds} rounds, the sides taking turns."
-    );
+    let times = times(&cases, rounds);
+    println!("One call: a report, from case text to printed bytes, or a case text written from its schedule;");
+    println!("{rounds} rounds, the sides taking turns.");
     println!("Times in microseconds; a ratio under 1 means that the library is faster.\n");
     println!("| case | bytes | entries | model best | median | library best | median | ratio best | median | library entries a second |");
     println!("|---|---:|---:|---:|---:|---:|---:|---:|---:|---:|");
     for (case, (model, library)) in cases.iter().zip(times) {
-        let (model, library) = (measured(model), measured(library));
-        let a_second = match case.entries {
-            0 => String::from("-"),
-            entries => format!("{:.1} million", entries as f64 / micros(library.best)),
-        };
-        println!(
-            "| {} | {} | {} | {:.2} | {:.2} | {:.2} | {:.2} | {:.2} | {:.2} | {a_second} |",
-            case.what,
-            case.text.len(),
-            case.entries,
-            micros(model.best),
-            micros(model.median),
-            micros(library.best),
-            micros(library.median),
-            micros(library.best) / micros(model.best),
-            micros(library.median) / micros(model.median),
-        );
+        print_times(case, measured(model), measured(library));
     }
     true
 }
 
-/// The library's time by the number of claimants and by that of entries.
+/// A line of the table.
+fn print_times(case: &Case, model: Measured, library: Measured) {
+    let a_second = match case.entries {
+        0 => String::from("-"),
+        entries => format!("{:.1} million", entries as f64 / micros(library.best)),
+    };
+    println!(
+        "| {} | {} | {} | {:.2} | {:.2} | {:.2} | {:.2} | {:.2} | {:.2} | {a_second} |",
+        case.what,
+        case.bytes,
+        case.entries,
+        micros(model.best),
+        micros(model.median),
+        micros(library.best),
+        micros(library.median),
+        micros(library.best) / micros(model.best),
+        micros(library.median) / micros(model.median),
+    );
+}
+
+/// The time of the library's reports by the number of claimants and by that of
+/// entries.
 fn growth() {
-    let mut out = row();
-    let mut best = |text: &[u8]| {
-        let calls = calls_a_millisecond(measured_library, text, &mut out);
+    let mut out = Out::new();
+    let mut best = |text: Vec<u8>| {
+        let job = Job::Report(text);
+        let calls = calls_a_millisecond(measured_library, &job, &mut out);
         let times = (0..25)
-            .map(|_| time(measured_library, text, &mut out, calls))
+            .map(|_| time(measured_library, &job, &mut out, calls))
             .collect();
         micros(measured(times).best)
     };
     println!("The library's best time in microseconds, by claimants (2,048 entries):\n");
     println!("| claimants | time | nanoseconds an entry |\n|---:|---:|---:|");
     for claimants in [1, 2, 4, 8, 16, 32, 64] {
-        let time = best(&cases::schedule(claimants, 2_048));
+        let time = best(cases::schedule(claimants, 2_048));
         println!(
             "| {claimants} | {time:.2} | {:.1} |",
             time * 1_000.0 / 2_048.0
@@ -155,7 +200,7 @@ fn growth() {
     println!("\nThe same by entries (8 claimants):\n");
     println!("| entries | time | nanoseconds an entry |\n|---:|---:|---:|");
     for entries in [0, 32, 128, 512, 1_024, 2_048] {
-        let time = best(&cases::schedule(8, entries));
+        let time = best(cases::schedule(8, entries));
         let each = if entries == 0 {
             String::from("-")
         } else {
@@ -165,19 +210,22 @@ fn growth() {
     }
 }
 
-/// One call of one side; the row is touched before, so that it is there.
+/// One call of one side.
 fn once(side: &str, name: &str) -> bool {
     let Some(case) = cases::all().into_iter().find(|case| case.name == name) else {
         println!("bench: no case is called {name}");
         return false;
     };
-    let mut out = row();
-    out.fill(1);
-    let length = match side {
-        "model" => measured_model(&&case.text[..], &mut out),
-        "library" => measured_library(&&case.text[..], &mut out),
-        _ => 0,
+    let side: Side = match side {
+        "model" => measured_model,
+        "library" => measured_library,
+        _ => {
+            println!("bench: no side is called {side}");
+            return false;
+        }
     };
+    let mut out = Out::new();
+    let length = side(&case.job, &mut out).len();
     println!("{length}");
     length > 0
 }

@@ -10,6 +10,11 @@ pub mod Texts
 pub mod Promises
 pub mod Readings
 pub mod Puts
+pub mod Measures
+pub mod Schedules
+pub mod Refusals
+pub mod Trips
+pub mod Longest
 pub mod Runs
 pub mod Lengths
 pub mod Reports

@@ -8,10 +8,11 @@ use mathlib.Core.List.{List, [], _∷_, _++_, append-assoc, append-nil, map}
 use lib.Dec.{leb, ltb}
 use lib.ListN.{length, getD, drop, length-drop, drop-of-length-le}
 use borrow.Author.Tests.{le-ltb, lt-ltb, ltb-true, ltb-false, leb-true, leb-false}
+use Rattle.rules.specs.declared.Call.{Call}
+use Rattle.rules.specs.declared.Call.the-variants.{Ask, Step, Leave}
 use Rattle.store.specs.Schedules.{kindIn, claimantIn, sessionIn, isNine, callOf}
 use Rattle.casetext.specs.Words.{ascii}
-use Rattle.casetext.specs.Layout.{Turn, InRange, AllInRange, entry, entryOf, callSaid, lineText, doText, doTexts, headText}
-use Rattle.casetext.specs.Layout.Turn.{ask, step, leave}
+use Rattle.casetext.specs.Layout.{InRange, AllInRange, entry, entryOf, lineText, doText, doTexts, headText}
 use Rattle.casetext.specs.Lines.{lineAt, doLineAt}
 use Rattle.casetext.specs.Reading.{Said, before, doLines, fromLine2, fromLine3, reading}
 use Rattle.casetext.specs.Reading.Said.{accepted, refused}
@@ -29,7 +30,7 @@ use Rattle.casetext.proofs.Texts.{inside, turns-read, Run, run}
 use Rattle.casetext.proofs.Texts.Run.{whole, bad, many as too-many}
 
 -- A reading is of one kind only.
-not-refused {ℓ} : {A : Type ℓ} {n k number line : ℕ} {es : List ℕ} → accepted n k es ≡ refused number line → A
+pub not-refused {ℓ} : {A : Type ℓ} {n k number line : ℕ} {es : List ℕ} → accepted n k es ≡ refused number line → A
 not-refused e = let z : _≡_ {A = ℕ} 0 1 = cc in absurd (omega arith)
 
 -- Where no line fits, none is found.
@@ -83,7 +84,7 @@ unfolding reading fromLine2 fromLine3
 head-read {s} l h = rw (le-ltb 32768 (length s) l, h .found-1, h .found-2)
 
 -- Turns to the end of the text, and nothing else, are all that is read.
-turns-whole : (n k : ℕ) (s : List ℕ) (ts : List Turn) (places at line : ℕ) → AllInRange ts → length ts ≤ places → drop at s ≡ doTexts ts
+turns-whole : (n k : ℕ) (s : List ℕ) (ts : List Call) (places at line : ℕ) → AllInRange ts → length ts ≤ places → drop at s ≡ doTexts ts
     → doLines n k places s at line ≡ accepted n k (map entryOf ts)
 unfolding before
 turns-whole n k s ts places at line h m e =
@@ -225,22 +226,22 @@ refused-exactly s number line = (λ e. go e (verdict s), cause-read s number lin
         rw (a, b) at c
 
 -- An entry says which turn it is of.
-one-turn : (t u : Turn) → InRange t → InRange u → entryOf t ≡ entryOf u → t ≡ u
+one-turn : (t u : Call) → InRange t → InRange u → entryOf t ≡ entryOf u → t ≡ u
 unfolding InRange entryOf
-one-turn (ask w s) (ask v r) h g e =
+one-turn (Ask w s) (Ask v r) h g e =
     let a : w ≡ v = omega arith in
     let b : s ≡ r = omega arith in
     rw (a, b)
-one-turn (ask w s) (step v) h g e = absurd (omega arith)
-one-turn (ask w s) (leave v) h g e = absurd (omega arith)
-one-turn (step w) (ask v r) h g e = absurd (omega arith)
-one-turn (step w) (step v) h g e = let a : w ≡ v = omega arith in rw a
-one-turn (step w) (leave v) h g e = absurd (omega arith)
-one-turn (leave w) (ask v r) h g e = absurd (omega arith)
-one-turn (leave w) (step v) h g e = absurd (omega arith)
-one-turn (leave w) (leave v) h g e = let a : w ≡ v = omega arith in rw a
+one-turn (Ask w s) (Step v) h g e = absurd (omega arith)
+one-turn (Ask w s) (Leave v) h g e = absurd (omega arith)
+one-turn (Step w) (Ask v r) h g e = absurd (omega arith)
+one-turn (Step w) (Step v) h g e = let a : w ≡ v = omega arith in rw a
+one-turn (Step w) (Leave v) h g e = absurd (omega arith)
+one-turn (Leave w) (Ask v r) h g e = absurd (omega arith)
+one-turn (Leave w) (Step v) h g e = absurd (omega arith)
+one-turn (Leave w) (Leave v) h g e = let a : w ≡ v = omega arith in rw a
 
-one-schedule : (ts us : List Turn) → AllInRange ts → AllInRange us → map entryOf ts ≡ map entryOf us → ts ≡ us
+one-schedule : (ts us : List Call) → AllInRange ts → AllInRange us → map entryOf ts ≡ map entryOf us → ts ≡ us
 unfolding AllInRange
 one-schedule [] [] h g e = refl
 one-schedule [] (u ∷ us) h g e = let z : _≡_ {A = ℕ} 0 1 = cc in absurd (omega arith)
@@ -265,30 +266,30 @@ one-reading s n k n′ k′ ts ts′ w w′ =
     (cc, cc, one-schedule ts ts′ (w .ranged) (w′ .ranged) (cc))
 
 -- A turn's entry makes the call that it says.
-abbrev Makes : (entry : ℕ) → Turn → Type 0
-Makes e t = (isNine e ≡ false) × (callOf e ≡ callSaid t)
+abbrev Makes : (entry : ℕ) → Call → Type 0
+Makes e t = (isNine e ≡ false) × (callOf e ≡ t)
 
 parts : (kind w s : ℕ) → w ≤ 255 → s ≤ 65535 → let e = entry kind w s in (kindIn e ≡ kind) × (claimantIn e ≡ w) × (sessionIn e ≡ s)
 parts kind w s h g = (omega arith, omega arith, omega arith)
 
-made : (t : Turn) → InRange t → Makes (entryOf t) t
-unfolding InRange entryOf callSaid
-made (ask w s) h = let p = parts 1 w s (h .0) (h .1) in rw (p .0, p .1, p .2) (refl, refl)
-made (step w) h = let p = parts 0 w 0 h (omega arith) in rw (p .0, p .1, p .2) (refl, refl)
-made (leave w) h = let p = parts 2 w 0 h (omega arith) in rw (p .0, p .1, p .2) (refl, refl)
+pub made : (t : Call) → InRange t → Makes (entryOf t) t
+unfolding InRange entryOf
+made (Ask w s) h = let p = parts 1 w s (h .0) (h .1) in rw (p .0, p .1, p .2) (refl, refl)
+made (Step w) h = let p = parts 0 w 0 h (omega arith) in rw (p .0, p .1, p .2) (refl, refl)
+made (Leave w) h = let p = parts 2 w 0 h (omega arith) in rw (p .0, p .1, p .2) (refl, refl)
 
-all-first : (t : Turn) (ts : List Turn) → AllInRange (t ∷ ts) → InRange t
+all-first : (t : Call) (ts : List Call) → AllInRange (t ∷ ts) → InRange t
 unfolding AllInRange
 all-first t ts r = r .0
 
-all-rest : (t : Turn) (ts : List Turn) → AllInRange (t ∷ ts) → AllInRange ts
+all-rest : (t : Call) (ts : List Call) → AllInRange (t ∷ ts) → AllInRange ts
 unfolding AllInRange
 all-rest t ts r = r .1
 
 pub entries-made : EntriesMade
 entries-made s n k es c i h = rw (c .says) (at (c .turns) (c .written .ranged) i (rw (c .says) at h))
   where
-    at : (ts : List Turn) → AllInRange ts → (i : ℕ) → i < length (map entryOf ts) → Makes (getD (map entryOf ts) i 0) (getD ts i (step 0))
+    at : (ts : List Call) → AllInRange ts → (i : ℕ) → i < length (map entryOf ts) → Makes (getD (map entryOf ts) i 0) (getD ts i (Step 0))
     at [] r i h = absurd (omega arith)
     at (t ∷ ts) r zero h = made t (all-first t ts r)
     at (t ∷ ts) r (suc i) h = at ts (all-rest t ts r) i (omega arith)

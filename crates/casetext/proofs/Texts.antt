@@ -8,7 +8,8 @@ use mathlib.Core.List.{List, [], _∷_, _++_, append-assoc, map}
 use lib.Dec.{leb}
 use lib.ListN.{length, drop, length-append, length-drop, drop-of-length-le}
 use borrow.Author.Tests.{leb-true, leb-false}
-use Rattle.casetext.specs.Layout.{Turn, InRange, AllInRange, entryOf, doText, doTexts}
+use Rattle.rules.specs.declared.Call.{Call}
+use Rattle.casetext.specs.Layout.{InRange, AllInRange, entryOf, doText, doTexts}
 use Rattle.casetext.specs.Lines.{doLineAt}
 use Rattle.casetext.specs.Reading.{Said, before, doLines}
 use Rattle.casetext.specs.Reading.Said.{accepted, refused}
@@ -27,7 +28,7 @@ inside s at b l e = omega (arith, sym (length-drop at s) ∙ ap length e)
 
 module _ (n k : ℕ) (s : List ℕ) where
   -- turns that stand at a place are read, and then what comes after them
-  pub turns-read : (ts : List Turn) (places at line : ℕ) (rest : List ℕ) → AllInRange ts → length ts ≤ places → drop at s ≡ doTexts ts ++ rest
+  pub turns-read : (ts : List Call) (places at line : ℕ) (rest : List ℕ) → AllInRange ts → length ts ≤ places → drop at s ≡ doTexts ts ++ rest
       → doLines n k places s at line
       ≡ before (map entryOf ts) (doLines n k (places - length ts) s (at + length (doTexts ts)) (line + length ts))
   unfolding AllInRange doTexts
@@ -48,10 +49,10 @@ module _ (n k : ℕ) (s : List ℕ) where
 
 -- What the do lines from a place come to.
 pub data Run (n k : ℕ) (s : List ℕ) (places at line : ℕ) (r : Said) : Type 0 where
-  whole : (ts : List Turn) → AllInRange ts → length ts ≤ places → drop at s ≡ doTexts ts → r ≡ accepted n k (map entryOf ts) → Run n k s places at line r
-  bad : (ts : List Turn) (rest : List ℕ) → AllInRange ts → length ts ≤ places → drop at s ≡ doTexts ts ++ rest → (rest ≡ [] → ⊥) → NoDoLine rest
+  whole : (ts : List Call) → AllInRange ts → length ts ≤ places → drop at s ≡ doTexts ts → r ≡ accepted n k (map entryOf ts) → Run n k s places at line r
+  bad : (ts : List Call) (rest : List ℕ) → AllInRange ts → length ts ≤ places → drop at s ≡ doTexts ts ++ rest → (rest ≡ [] → ⊥) → NoDoLine rest
       → r ≡ refused 12 (line + length ts) → Run n k s places at line r
-  many : (ts : List Turn) (t : Turn) (rest : List ℕ) → AllInRange ts → InRange t → length ts ≡ places
+  many : (ts : List Call) (t : Call) (rest : List ℕ) → AllInRange ts → InRange t → length ts ≡ places
       → drop at s ≡ doTexts ts ++ (doText t ++ rest) → r ≡ refused 13 (line + length ts) → Run n k s places at line r
 
 module _ (n k : ℕ) (s : List ℕ) where
@@ -68,7 +69,7 @@ module _ (n k : ℕ) (s : List ℕ) where
       (rw (add-zero line) (lines-broken n k s at line h places e))
 
   -- one turn more in front
-  one-more : (places at line next : ℕ) (t : Turn) (r : Said) → InRange t → Stands s at next (doText t)
+  one-more : (places at line next : ℕ) (t : Call) (r : Said) → InRange t → Stands s at next (doText t)
       → Run n k s places next (line + 1) r → Run n k s (suc places) at line (before (entryOf t ∷ []) r)
   unfolding AllInRange doTexts before
   one-more places at line next t r h p (whole ts a m e q) =

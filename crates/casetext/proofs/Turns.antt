@@ -8,10 +8,11 @@ use mathlib.Core.List.{List, [], _∷_, _++_}
 use lib.Dec.{eqb}
 use lib.ListN.{length, getD, drop}
 use borrow.Author.Tests.{eqb-true}
+use Rattle.rules.specs.declared.Call.{Call}
+use Rattle.rules.specs.declared.Call.the-variants.{Ask, Step, Leave}
 use Rattle.casetext.specs.Words.{ascii}
 use Rattle.casetext.specs.Numerals.{numeral}
-use Rattle.casetext.specs.Layout.{Turn, InRange, entryOf, entry, fieldText, lineText, turnText, doText}
-use Rattle.casetext.specs.Layout.Turn.{ask, step, leave}
+use Rattle.casetext.specs.Layout.{InRange, entryOf, entry, fieldText, lineText, turnText, doText}
 use Rattle.casetext.specs.Pieces.{begins, numberAt, fieldAt}
 use Rattle.casetext.specs.Lines.{ended, lineAt, ofKind, calledAt, withSession, askedBy, thenSession, askAt, turnAt, doLineAt}
 use Rattle.casetext.specs.declared.Found.{Found}
@@ -75,25 +76,25 @@ line-stands w most s at e =
     (field-most w most s at (r .1), stands-both (field-stands w most s at (r .1)) (r .2))
 
 -- What stands after `do=`.
-pub turn-found : (t : Turn) {s : List ℕ} {at next : ℕ} → InRange t → Stands s at next (turnText t) → NoDigit (drop next s)
+pub turn-found : (t : Call) {s : List ℕ} {at next : ℕ} → InRange t → Stands s at next (turnText t) → NoDigit (drop next s)
     → turnAt s at ≡ Is (entryOf t) next
 unfolding turnAt turnText InRange entryOf calledAt ofKind askAt thenSession askedBy withSession begins
-turn-found (ask who session) h p d =
+turn-found (Ask who session) h p d =
     let l = stands-left (fieldText (ascii "ask ") who) (fieldText (ascii " ") session) p in
     let r = stands-right (fieldText (ascii "ask ") who) (fieldText (ascii " ") session) p in
     let a = number-found 255 who (h .0) (stands-right (ascii "ask ") (numeral who) l) (end-no-digit 32 (numeral session) refl r) in
     let b = field-found (ascii " ") {most = 65535} (h .1) r d in
     rw (p .text) (rw a (rw b))
-turn-found (step who) h p d =
+turn-found (Step who) h p d =
     let a = number-found 255 who h (stands-right (ascii "step ") (numeral who) p) d in
     rw (p .text) (rw a)
-turn-found (leave who) h p d =
+turn-found (Leave who) h p d =
     let a = number-found 255 who h (stands-right (ascii "leave ") (numeral who) p) d in
     rw (p .text) (rw a)
 
 -- a turn that was found, with the entry that it says
 pub record TurnStands (s : List ℕ) (at e next : ℕ) : Type 0 where
-  pub turn : Turn
+  pub turn : Call
   pub ranged : InRange turn
   pub says : e ≡ entryOf turn
   pub stands : Stands s at next (turnText turn)
@@ -134,7 +135,7 @@ ask-stands s at {e} {next} w f = go (numberAt 255 s (at + 4)) refl f
         let r = asked-stands who s b f in
         let l = stands-both (word-stands (ascii "ask ") s at w) (number-stands 255 s (at + 4) q) in
         record {
-          turn = ask who (r .0);
+          turn = Ask who (r .0);
           ranged = (number-most 255 s (at + 4) q, r .1);
           says = r .2;
           stands = stands-both l (r .3);
@@ -146,17 +147,17 @@ turn-stands s at {e} {next} f =
     decide (begins (ascii "step ") (drop at s))
     (λ w.
     let r = called-stands 0 s (at + 5) (rw w at f) in
-    record { turn = step (r .0); ranged = r .1; says = r .2; stands = stands-both (word-stands (ascii "step ") s at w) (r .3) })
+    record { turn = Step (r .0); ranged = r .1; says = r .2; stands = stands-both (word-stands (ascii "step ") s at w) (r .3) })
     (λ v. decide (begins (ascii "ask ") (drop at s))
     (λ w. ask-stands s at w (rw (v, w) at f))
     (λ u. decide (begins (ascii "leave ") (drop at s))
     (λ w.
     let r = called-stands 2 s (at + 6) (rw (v, u, w) at f) in
-    record { turn = leave (r .0); ranged = r .1; says = r .2; stands = stands-both (word-stands (ascii "leave ") s at w) (r .3) })
+    record { turn = Leave (r .0); ranged = r .1; says = r .2; stands = stands-both (word-stands (ascii "leave ") s at w) (r .3) })
     (λ w. not-found (rw (v, u, w) at f))))
 
 -- A do line.
-pub do-found : (t : Turn) {s : List ℕ} {at next : ℕ} → InRange t → Stands s at next (doText t) → doLineAt s at ≡ Is (entryOf t) next
+pub do-found : (t : Call) {s : List ℕ} {at next : ℕ} → InRange t → Stands s at next (doText t) → doLineAt s at ≡ Is (entryOf t) next
 unfolding doLineAt
 do-found t {s} {at} {next} h p =
     let l = stands-left (ascii "do=" ++ turnText t) (ascii "\n") p in
@@ -165,7 +166,7 @@ do-found t {s} {at} {next} h p =
     (rw (turn-found t h (stands-right (ascii "do=") (turnText t) l) (end-no-digit 10 [] refl r)) (end-found (entryOf t) r))
 
 pub do-stands : (s : List ℕ) (at : ℕ) {e next : ℕ} → doLineAt s at ≡ Is e next
-    → (t : Turn) × InRange t × (e ≡ entryOf t) × Stands s at next (doText t)
+    → (t : Call) × InRange t × (e ≡ entryOf t) × Stands s at next (doText t)
 unfolding doLineAt
 do-stands s at f =
     decide (begins (ascii "do=") (drop at s))

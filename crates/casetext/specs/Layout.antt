@@ -7,18 +7,13 @@ use Rattle.rules.specs.declared.Call.the-variants.{Ask, Step, Leave}
 use Rattle.casetext.specs.Words.{ascii}
 use Rattle.casetext.specs.Numerals.{numeral}
 
--- What a do line says.
-pub data Turn : Type 0 where
-  ask : (who session : ℕ) → Turn
-  step leave : (who : ℕ) → Turn
+-- A do line says a call. Claimants go up to 255 and sessions up to 65,535.
+unfoldable pub InRange : Call → Type 0
+InRange (Ask who session) = (who ≤ 255) × (session ≤ 65535)
+InRange (Step who) = who ≤ 255
+InRange (Leave who) = who ≤ 255
 
--- Claimants go up to 255 and sessions up to 65,535.
-unfoldable pub InRange : Turn → Type 0
-InRange (ask who session) = (who ≤ 255) × (session ≤ 65535)
-InRange (step who) = who ≤ 255
-InRange (leave who) = who ≤ 255
-
-unfoldable pub AllInRange : List Turn → Type 0
+unfoldable pub AllInRange : List Call → Type 0
 AllInRange [] = Unit {0}
 AllInRange (t ∷ ts) = InRange t × AllInRange ts
 
@@ -26,16 +21,10 @@ AllInRange (t ∷ ts) = InRange t × AllInRange ts
 abbrev pub entry : (kind who session : ℕ) → ℕ
 entry kind who session = kind * 16777216 + who * 65536 + session
 
-unfoldable pub entryOf : Turn → ℕ
-entryOf (ask who session) = entry 1 who session
-entryOf (step who) = entry 0 who 0
-entryOf (leave who) = entry 2 who 0
-
--- The call that a do line says.
-unfoldable pub callSaid : Turn → Call
-callSaid (ask who session) = Ask who session
-callSaid (step who) = Step who
-callSaid (leave who) = Leave who
+unfoldable pub entryOf : Call → ℕ
+entryOf (Ask who session) = entry 1 who session
+entryOf (Step who) = entry 0 who 0
+entryOf (Leave who) = entry 2 who 0
 
 -- A word and a number.
 abbrev pub fieldText : (word : List ℕ) → (n : ℕ) → List ℕ
@@ -44,15 +33,15 @@ fieldText w n = w ++ numeral n
 abbrev pub lineText : (word : List ℕ) → (n : ℕ) → List ℕ
 lineText w n = fieldText w n ++ ascii "\n"
 
-unfoldable pub turnText : Turn → List ℕ
-turnText (ask who session) = fieldText (ascii "ask ") who ++ fieldText (ascii " ") session
-turnText (step who) = fieldText (ascii "step ") who
-turnText (leave who) = fieldText (ascii "leave ") who
+unfoldable pub turnText : Call → List ℕ
+turnText (Ask who session) = fieldText (ascii "ask ") who ++ fieldText (ascii " ") session
+turnText (Step who) = fieldText (ascii "step ") who
+turnText (Leave who) = fieldText (ascii "leave ") who
 
-abbrev pub doText : Turn → List ℕ
+abbrev pub doText : Call → List ℕ
 doText t = ascii "do=" ++ turnText t ++ ascii "\n"
 
-unfoldable pub doTexts : List Turn → List ℕ
+unfoldable pub doTexts : List Call → List ℕ
 doTexts [] = []
 doTexts (t ∷ ts) = doText t ++ doTexts ts
 
@@ -60,11 +49,11 @@ doTexts (t ∷ ts) = doText t ++ doTexts ts
 abbrev pub headText : (claimants ceiling : ℕ) → List ℕ
 headText n k = lineText (ascii "claimants=") n ++ lineText (ascii "ceiling=") k
 
-abbrev pub caseText : (claimants ceiling : ℕ) → List Turn → List ℕ
+abbrev pub caseText : (claimants ceiling : ℕ) → List Call → List ℕ
 caseText n k ts = headText n k ++ doTexts ts
 
 -- A text keeps the layout if it is the lines of some numbers and turns in range.
-pub record Writes (s : List ℕ) (claimants ceiling : ℕ) (turns : List Turn) : Type 0 where
+pub record Writes (s : List ℕ) (claimants ceiling : ℕ) (turns : List Call) : Type 0 where
   pub first : claimants ≤ 4294967295
   pub second : ceiling ≤ 4294967295
   pub ranged : AllInRange turns

@@ -6,5 +6,7 @@ pub mod Lines
 pub mod Reading
 pub mod Answers
 pub mod Writing
+pub mod Written
 pub mod Report
 pub mod Promises
+pub mod RoundTrips

@@ -5,20 +5,22 @@ use mathlib.Core.Path.{_≡_}
 use mathlib.Core.Logic.{_≢_, _↔_}
 use mathlib.Core.List.{List, [], _∷_, _++_, map}
 use lib.ListN.{length, getD, drop}
+use Rattle.rules.specs.declared.Call.{Call}
+use Rattle.rules.specs.declared.Call.the-variants.{Step}
 use Rattle.store.specs.Schedules.{isNine, callOf}
 use Rattle.casetext.specs.Words.{ascii}
-use Rattle.casetext.specs.Layout.{Turn, InRange, AllInRange, entryOf, callSaid, lineText, doText, caseText, Writes}
-use Rattle.casetext.specs.Layout.Turn.{step}
+use Rattle.casetext.specs.Layout.{InRange, AllInRange, entryOf, lineText, doText, caseText, Writes}
 use Rattle.casetext.specs.Reading.{reading, readInto, told, rowAfter}
 use Rattle.casetext.specs.Answers.{readingNumber, readingLine, readingValues}
 use Rattle.casetext.specs.Report.{printed, reportBytes, reported}
+use Rattle.casetext.specs.declared.Reading.the-variants.{Case}
 use Rattle.casetext.specs.declared.Reported.the-variants.{Printed}
 use Rattle.casetext.specs.Reading.Said.{accepted, refused}
 
 -- A text that is a case: short enough, in the layout, with at most 2,048 do lines. The entries are those of its turns.
 pub record IsCase (s : List ℕ) (claimants ceiling : ℕ) (entries : List ℕ) : Type 0 where
   pub short : length s ≤ 32768
-  pub turns : List Turn
+  pub turns : List Call
   pub written : Writes s claimants ceiling turns
   pub few : length turns ≤ 2048
   pub says : entries ≡ map entryOf turns
@@ -32,7 +34,7 @@ AcceptedExactly =
 -- No two readings of one text, whatever its length.
 abbrev pub OneReading : Type 0
 OneReading =
-    (s : List ℕ) (n k n′ k′ : ℕ) (ts ts′ : List Turn)
+    (s : List ℕ) (n k n′ k′ : ℕ) (ts ts′ : List Call)
     → Writes s n k ts → Writes s n′ k′ ts′ → (n ≡ n′) × (k ≡ k′) × (ts ≡ ts′)
 
 -- What is left of a text does not begin with a line of this word and a number in range; nor with a do line.
@@ -40,22 +42,22 @@ abbrev pub NoNumberLine : (word : List ℕ) → (rest : List ℕ) → Type 0
 NoNumberLine word rest = (n : ℕ) (after : List ℕ) → n ≤ 4294967295 → rest ≡ lineText word n ++ after → ⊥
 
 abbrev pub NoDoLine : (rest : List ℕ) → Type 0
-NoDoLine rest = (t : Turn) (after : List ℕ) → InRange t → rest ≡ doText t ++ after → ⊥
+NoDoLine rest = (t : Call) (after : List ℕ) → InRange t → rest ≡ doText t ++ after → ⊥
 
 -- The lines before this one are as the layout wants them, and this one is not. Lines 1 and 2 may also be missing.
 pub data FirstBad (s : List ℕ) (line : ℕ) : Type 0 where
   line-1 : line ≡ 1 → NoNumberLine (ascii "claimants=") s → FirstBad s line
   line-2 : (n : ℕ) (rest : List ℕ) → line ≡ 2 → n ≤ 4294967295
       → s ≡ lineText (ascii "claimants=") n ++ rest → NoNumberLine (ascii "ceiling=") rest → FirstBad s line
-  line-3-on : (n k : ℕ) (ts : List Turn) (rest : List ℕ) → line ≡ 3 + length ts → n ≤ 4294967295 → k ≤ 4294967295
+  line-3-on : (n k : ℕ) (ts : List Call) (rest : List ℕ) → line ≡ 3 + length ts → n ≤ 4294967295 → k ≤ 4294967295
       → AllInRange ts → length ts ≤ 2048 → s ≡ caseText n k ts ++ rest → (rest ≡ [] → ⊥) → NoDoLine rest → FirstBad s line
 
 -- This line is a well-formed do line after 2,048 of them.
 pub record TooMany (s : List ℕ) (line : ℕ) : Type 0 where
   pub claimants : ℕ
   pub ceiling : ℕ
-  pub turns : List Turn
-  pub more : Turn
+  pub turns : List Call
+  pub more : Call
   pub rest : List ℕ
   pub at : line ≡ 2051
   pub first : claimants ≤ 4294967295
@@ -99,11 +101,15 @@ AcceptedReading =
     (readingNumber (told said) ≡ 0) × (readingValues (told said) ≡ claimants ∷ ceiling ∷ length entries ∷ [])
     × (rowAfter said row ≡ entries ++ drop (length entries) row)
 
+-- No reading has more entries than a case text may have do lines.
+abbrev pub ReadWithin : Type 0
+ReadWithin = (row s : List ℕ) (claimants ceiling count : ℕ) → told (readInto row s) ≡ Case claimants ceiling count → count ≤ 2048
+
 -- Every entry given back makes the very call that its do line says: refusal 9 names none of them.
 abbrev pub EntriesMade : Type 0
 EntriesMade =
     (s : List ℕ) (n k : ℕ) (entries : List ℕ) (c : IsCase s n k entries) (i : ℕ) → i < length entries
-    → let e = getD entries i 0 in (isNine e ≡ false) × (callOf e ≡ callSaid (getD (c .turns) i (step 0)))
+    → let e = getD entries i 0 in (isNine e ≡ false) × (callOf e ≡ getD (c .turns) i (Step 0))
 
 -- No report is longer than the row that every report fits.
 abbrev pub ReportFits : Type 0

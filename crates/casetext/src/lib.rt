@@ -1,14 +1,19 @@
-// Case texts: the reader, which takes any bytes at all, and what `boardcase` prints of them.
+// Case texts: the reader, which takes any bytes at all, the writer, which takes any schedule, and what `boardcase` prints of a text.
 //
 // The layout is defined by writing (specs/Layout.antt): a line is the text of what it says.
+
 mod lines;
 mod pieces;
 mod reader;
 mod reporting;
+mod sizes;
+mod spelling;
+mod writer;
 mod writing;
 
 pub use reader::read;
 pub use reporting::report;
+pub use writer::write;
 
 // What a reader finds at a place: a number, with the place past its text, or a text that breaks the layout.
 pub(crate) enum Found {
@@ -27,6 +32,12 @@ pub enum Reading {
         number: u8,
         line: usize,
     },
+}
+
+// What a schedule's text came to: so many bytes, or the number of a refusal.
+pub enum Written {
+    Bytes(usize),
+    Refused(u8),
 }
 
 // What a report came to: so many bytes, or a row that some report would not fit.

@@ -19,6 +19,8 @@ pub use Rattle.rules.proofs.Only.{same}
 use Rattle.store.specs.Runs.{lowestBroken, outcomeOf, openRefusal, opening, running}
 use Rattle.store.specs.Standings.{standingOf}
 use Rattle.store.specs.Trials.{trialLeft, trialOutcome}
+use Rattle.store.specs.Schedules.{decoded}
+use Rattle.store.proofs.Entry.decoded as #decoded
 use Rattle.store.proofs.lowest_broken as #lowest-broken
 use Rattle.store.proofs.open as #open
 use Rattle.store.proofs.call as #call
@@ -34,6 +36,13 @@ pub record Only (T : Ended) (c : Contract T) : Type 2 where
   pub ensures : {M : Type 1} (𝓤 : URA M) (H : Heap 𝓤) (A : Atoms 𝓤) (mem : Memory → SProp 𝓤) (run : Routine → Fun 𝓤) (κs : Lfts (T .signature .lifetimes)) (a : Args (T .signature) κs) (g : c M 𝓤 H A mem run κs a .ghost)
       (r : Res (T .signature) κs) (ws : Lasts T κs a) → c M 𝓤 H A mem run κs a .ensures g r (atExit T κs a ws) ≡ fact 𝓤 (φ κs a r ws)
   pub only : (κs : Lfts (T .signature .lifetimes)) (a : Args (T .signature) κs) (r r′ : Res (T .signature) κs) (ws ws′ : Lasts T κs a) → φ κs a r ws → φ κs a r′ ws′ → (r ≡ r′) × (ws ≡ ws′)
+
+pub only-entry-decoded : Only #decoded.ended (λ M. #decoded.clauses)
+only-entry-decoded = record {
+  φ = λ κs a r ws. r ≡ decoded (a .0);
+  ensures = λ 𝓤 H A mem run κs a g r ws. refl;
+  only = λ κs a r r′ ws ws′ p q. (same p q, refl);
+}
 
 pub only-lowest-broken : Only #lowest-broken.ended (λ M. #lowest-broken.clauses)
 only-lowest-broken = record {

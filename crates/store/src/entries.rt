@@ -13,7 +13,7 @@ use rules::Turn;
 
 impl Entry {
     // A 32-bit number: kind × 16,777,216 + claimant × 65,536 + session. Kind 0 is step, 1 ask, 2 leave; only an ask has a session.
-    pub(crate) fn decoded(number: u32) -> Entry
+    pub fn decoded(number: u32) -> Entry
         ensures { λ r. ⌜ r ≡ decoded number ⌝ }
     {
         let kind = number / 16777216;

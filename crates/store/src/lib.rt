@@ -33,7 +33,7 @@ pub enum StandingAnswer {
 }
 
 // An entry of a schedule: the call that it makes, or the number that refuses it before any rule does. Either names a claimant.
-pub(crate) enum Entry {
+pub enum Entry {
     Made(Call),
     Barred { who: u32, refusal: u8 },
 }

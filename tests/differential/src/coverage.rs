@@ -1,5 +1,5 @@
-//! What has been met: kinds of text, of answer, of step and of meeting. A run
-//! that never met one of them has compared less than it says.
+//! What has been met: kinds of text, of row, of answer, of step and of meeting.
+//! A run that never met one of them has compared less than it says.
 
 use model::casetext::{self, BadText, Case, MOST_BYTES, MOST_DO_LINES};
 use model::claimant::{conflict, place::*, Answer, Claimant, MOST_CLAIMANTS};
@@ -7,7 +7,7 @@ use model::table::{self, Call};
 use std::collections::BTreeMap;
 
 /// All that a run must meet.
-pub const KINDS: &[&str] = &[
+const KINDS: &[&str] = &[
     "text refused 11",
     "text refused 12 at line 1",
     "text refused 12 at line 2",
@@ -18,6 +18,11 @@ pub const KINDS: &[&str] = &[
     "text good, of 32768 bytes",
     "text good, with no do line",
     "text good, with 2048 do lines",
+    "row for entries, of 2048",
+    "row for entries, longer",
+    "row for entries, of 2047",
+    "row for entries, shorter",
+    "row for entries, too short for a text too long",
     "opening refused 1, of 0 claimants",
     "opening refused 1, of 65 claimants",
     "opening refused 1, of more",
@@ -75,15 +80,69 @@ pub const KINDS: &[&str] = &[
     "conflicting claimants with equal tokens",
 ];
 
-#[derive(Default)]
-pub struct Coverage {
+/// How often each of some kinds was met.
+pub struct Counts {
+    kinds: &'static [&'static str],
     counts: BTreeMap<&'static str, u64>,
 }
 
-impl Coverage {
-    fn met(&mut self, kind: &'static str) {
-        debug_assert!(KINDS.contains(&kind), "{kind}");
+impl Counts {
+    pub fn new(kinds: &'static [&'static str]) -> Counts {
+        Counts {
+            kinds,
+            counts: BTreeMap::new(),
+        }
+    }
+
+    pub fn met(&mut self, kind: &'static str) {
+        debug_assert!(self.kinds.contains(&kind), "{kind}");
         *self.counts.entry(kind).or_default() += 1;
+    }
+
+    /// Prints the counts; whether all kinds were met.
+    pub fn print(&self) -> bool {
+        let mut all = true;
+        for &kind in self.kinds {
+            let count = self.counts.get(kind).copied().unwrap_or(0);
+            let note = if count == 0 { "   NEVER MET" } else { "" };
+            println!("  {count:>10}  {kind}{note}");
+            all &= count > 0;
+        }
+        all
+    }
+}
+
+pub struct Coverage {
+    counts: Counts,
+}
+
+impl Coverage {
+    pub fn new() -> Coverage {
+        Coverage {
+            counts: Counts::new(KINDS),
+        }
+    }
+
+    fn met(&mut self, kind: &'static str) {
+        self.counts.met(kind);
+    }
+
+    /// Counts the rows that the readers are lent for a text: one that is long
+    /// enough, and perhaps one that is not.
+    pub fn note_rooms(&mut self, text: &[u8], (room, short): (usize, Option<usize>)) {
+        self.met(match room {
+            MOST_DO_LINES => "row for entries, of 2048",
+            _ => "row for entries, longer",
+        });
+        if let Some(short) = short {
+            self.met(match short + 1 {
+                MOST_DO_LINES => "row for entries, of 2047",
+                _ => "row for entries, shorter",
+            });
+            if text.len() > MOST_BYTES {
+                self.met("row for entries, too short for a text too long");
+            }
+        }
     }
 
     /// Counts what a text meets.
@@ -214,14 +273,7 @@ impl Coverage {
 
     /// Prints the counts; whether all kinds were met.
     pub fn print(&self) -> bool {
-        let mut all = true;
-        for &kind in KINDS {
-            let count = self.counts.get(kind).copied().unwrap_or(0);
-            let note = if count == 0 { "   NEVER MET" } else { "" };
-            println!("  {count:>10}  {kind}{note}");
-            all &= count > 0;
-        }
-        all
+        self.counts.print()
     }
 }
 

@@ -2,12 +2,15 @@
 //!
 //!     differential [--cases COUNT] [--seed SEED]
 //!     differential --seed SEED --case NUMBER     one case again
+//!     differential --write ..                    schedules written, with the same options
 //!     differential --files FILE...               these texts
 //!     differential --every                       every call on every small table
 //!     differential --self-test [--seed SEED]     that faults are found
 //!
-//! A difference prints the text, both outputs and the seed, and fails; so does
-//! a run of the full number of cases that never met some kind of text or step.
+//! Of a text the two reports are compared and what the two readers say, and a
+//! text that is taken is written as it was. A difference prints the text, both
+//! outputs and the seed, and fails; so does a run of the full number of cases
+//! that never met some kind of text or step.
 
 mod coverage;
 mod damage;
@@ -15,19 +18,22 @@ mod faults;
 mod limits;
 mod random;
 mod schedules;
+mod texts;
+mod writing;
 
 use coverage::Coverage;
-use damage::damage;
 use faults::Faulty;
+use model::casetext::MOST_DO_LINES;
 use model::report::{report_by, AsWritten, Parts};
 use model::table::Call;
 use random::Random;
-use schedules::{fill, lively, Writer};
 use small::search::{turns, walked, ways, Turn};
 use small::state::Space;
 use std::process::{exit, ExitCode};
 use std::time::Instant;
 use std::{env, fs};
+use texts::Texts;
+use writing::sides::{some_rooms, Both, Model};
 
 /// How many cases a run has, and below how many it need not meet every kind.
 const CASES: u64 = 250_000;
@@ -55,7 +61,9 @@ fn main() -> ExitCode {
     let good = match (cases, case, &words[..]) {
         (_, None, []) => compare(seed, cases.unwrap_or(CASES)),
         (None, Some(case), []) => compare_one(seed, case),
-        (None, None, ["--self-test"]) => self_test(seed),
+        (_, None, ["--write"]) => writing::compare(seed, cases),
+        (None, Some(case), ["--write"]) => writing::compare_one(seed, case),
+        (None, None, ["--self-test"]) => self_test(seed) & writing::self_test(seed),
         (None, None, ["--every"]) => compare_every(),
         (None, None, ["--files", files @ ..]) => compare_files(files),
         _ => usage(),
@@ -70,7 +78,7 @@ fn main() -> ExitCode {
 /// Ends the program for words that it doesn't know.
 fn usage<T>() -> T {
     eprintln!(
-        "differential [--seed SEED] [--cases COUNT | --case NUMBER | --self-test | --every | --files FILE...]"
+        "differential [--seed SEED] [[--write] [--cases COUNT | --case NUMBER] | --self-test | --every | --files FILE...]"
     );
     exit(2)
 }
@@ -135,85 +143,89 @@ fn shown(bytes: &[u8]) -> String {
 /// The cases of a seed, and what comparing them met.
 struct Comparison {
     seed: u64,
-    limits: Vec<Vec<u8>>,
+    texts: Texts,
     /// The row lent to the library, and what it is filled with before.
     row: Vec<u8>,
     filled: Vec<u8>,
     out: Vec<u8>,
+    both: Both<Model>,
     coverage: Coverage,
-    damages: [u64; damage::KINDS.len()],
+    /// How many texts were written as they were read, and how many not taken.
+    rewritten: u64,
+    refused: u64,
 }
 
 impl Comparison {
     fn new(seed: u64) -> Comparison {
         Comparison {
             seed,
-            limits: limits::texts(),
+            texts: Texts::new(seed),
             row: vec![FILLER; colliemist::REPORT_BYTES + MARGIN],
             filled: vec![FILLER; colliemist::REPORT_BYTES + MARGIN],
             out: Vec::new(),
-            coverage: Coverage::default(),
-            damages: [0; damage::KINDS.len()],
-        }
-    }
-
-    /// The text of one case: first those at the limits, then random ones.
-    fn text(&mut self, case: u64) -> Vec<u8> {
-        if let Some(text) = self.limits.get(case as usize) {
-            return text.clone();
-        }
-        let random = &mut Random::new(self.seed, case);
-        match random.below(100) {
-            0..=63 => lively(random, usize::MAX).text,
-            64..=95 => {
-                let mut text = lively(random, 12).text;
-                for _ in 0..random.pick(&[1, 1, 1, 2, 3]) {
-                    let at = random.below(damage::KINDS.len());
-                    damage(random, at, &mut text);
-                    self.damages[at] += 1;
-                }
-                text
-            }
-            96..=98 => {
-                let claimants = random.pick(&[0, 1, 63, 64, 65, 66, 255, 256, u32::MAX]);
-                let mut writer = Writer::new(claimants, random.pick(&[0, 0, 1, u32::MAX]));
-                let lines = random.below(20);
-                fill(random, &mut writer, lines);
-                writer.text
-            }
-            _ => {
-                // Long ones, and now and then a line too many.
-                let mut writer =
-                    Writer::new(random.between(1, 64) as u32, random.pick(&[1, 3, u32::MAX]));
-                let lines = random.between(2_040, 2_049);
-                fill(random, &mut writer, lines);
-                writer.text
-            }
+            both: Both::new(Model),
+            coverage: Coverage::new(),
+            rewritten: 0,
+            refused: 0,
         }
     }
 
     /// Compares one case; the difference, if there is one.
     fn case(&mut self, parts: &mut impl Parts, case: u64) -> Option<Difference> {
-        let text = self.text(case);
+        let text = self.texts.text(case);
         self.coverage.note(&text);
         // A row that is too short gets nothing, and stays as it is.
-        let short = Random::new(!self.seed, case).below(64 * colliemist::REPORT_BYTES);
+        let random = &mut Random::new(!self.seed, case);
+        let short = random.below(64 * colliemist::REPORT_BYTES);
         let short = (short < colliemist::REPORT_BYTES).then_some(short);
-        self.compare(parts, case, text, short)
+        let rooms = some_rooms(random);
+        self.coverage.note_rooms(&text, rooms);
+        self.compare_report(parts, case, &text, short)
+            .or_else(|| self.compare_reading(case, &text, rooms))
     }
 
-    fn compare(
+    /// Compares a text that is no case of a seed.
+    fn text(&mut self, text: &[u8]) -> Option<Difference> {
+        self.compare_report(&mut AsWritten, 0, text, None)
+            .or_else(|| self.compare_reading(0, text, (MOST_DO_LINES, None)))
+    }
+
+    /// What both readers say of a text, and what both writers make of that.
+    fn compare_reading(
+        &mut self,
+        case: u64,
+        text: &[u8],
+        rooms: (usize, Option<usize>),
+    ) -> Option<Difference> {
+        match self.both.read_then_write(text, rooms) {
+            Ok(Ok(_)) => self.rewritten += 1,
+            Ok(Err(_)) => self.refused += 1,
+            Err(what) => {
+                let (model, library) = self.both.written();
+                return Some(Difference {
+                    case,
+                    what,
+                    text: text.to_vec(),
+                    model,
+                    library,
+                });
+            }
+        }
+        None
+    }
+
+    fn compare_report(
         &mut self,
         parts: &mut impl Parts,
         case: u64,
-        text: Vec<u8>,
+        text: &[u8],
         short: Option<usize>,
     ) -> Option<Difference> {
         self.out.clear();
-        report_by(parts, &mut self.out, &text);
+        report_by(parts, &mut self.out, text);
         let mut what = None;
         if let Some(short) = short {
-            if colliemist::report_into(&text, &mut self.row[..short]).is_some() {
+            if colliemist::report_into(text, &mut self.row[..short]).is_some() {
                 what = Some(format!("a row of {short} bytes is too short but was taken"));
             }
             if self.row != self.filled {
@@ -223,7 +235,7 @@ impl Comparison {
             }
         }
         let room = colliemist::REPORT_BYTES + case as usize % MARGIN;
-        let library = colliemist::report_into(&text, &mut self.row[..room]).unwrap_or_default();
+        let library = colliemist::report_into(text, &mut self.row[..room]).unwrap_or_default();
         let library = library.to_vec();
         if self.row[library.len()..] != self.filled[library.len()..] {
             what = Some(String::from("bytes past the report were written to"));
@@ -237,7 +249,7 @@ impl Comparison {
             Difference {
                 case,
                 what,
-                text,
+                text: text.to_vec(),
                 model: self.out.clone(),
                 library,
             }
@@ -258,10 +270,14 @@ fn compare(seed: u64, cases: u64) -> bool {
     println!("met, in all the cases:");
     let mut all = comparison.coverage.print();
     println!("damages done:");
-    for ((kind, _), count) in damage::KINDS.iter().zip(comparison.damages) {
+    for ((kind, _), count) in damage::KINDS.iter().zip(comparison.texts.damages) {
         println!("  {count:>10}  {kind}");
         all &= count > 0;
     }
+    println!(
+        "{} texts written as they were read, {} not taken",
+        comparison.rewritten, comparison.refused
+    );
     println!(
         "differential: {cases} cases, no difference, {:.1} s (seed {seed})",
         start.elapsed().as_secs_f64()
@@ -280,7 +296,7 @@ fn compare_files(files: &[&str]) -> bool {
     for file in files {
         match fs::read(file) {
             Ok(text) => {
-                if let Some(difference) = comparison.compare(&mut AsWritten, 0, text, None) {
+                if let Some(difference) = comparison.text(&text) {
                     println!("{file}");
                     good = difference.print(0);
                 }
@@ -292,8 +308,10 @@ fn compare_files(files: &[&str]) -> bool {
         }
     }
     println!(
-        "differential: {} files, {}",
+        "differential: {} files, {} written as they were read, {} not taken, {}",
         files.len(),
+        comparison.rewritten,
+        comparison.refused,
         if good { "no difference" } else { "FAILED" }
     );
     good
@@ -322,7 +340,7 @@ fn compare_every() -> bool {
                 let all: Vec<Turn> = way.iter().chain(&refused).copied().chain([turn]).collect();
                 let text = small::casetexts::text(&space, &all).into_bytes();
                 texts += 1;
-                if let Some(found) = comparison.compare(&mut AsWritten, 0, text, None) {
+                if let Some(found) = comparison.text(&text) {
                     return found.print(0);
                 }
             }
