@@ -7,6 +7,11 @@ use crate::pieces::byte;
 use crate::pieces::field;
 use crate::pieces::number;
 use crate::pieces::word;
+use crate::spelling::ASK;
+use crate::spelling::DO;
+use crate::spelling::LEAVE;
+use crate::spelling::SESSION;
+use crate::spelling::STEP;
 
 // What was found, if the line ends right after it.
 fn line_end(text: &[u8], found: Found) -> Found
@@ -55,7 +60,7 @@ fn asked_by(text: &[u8], at: usize, who: u32) -> Found
     requires { ⌜ who ≤ 255 ⌝ }
     ensures { λ r. ⌜ r ≡ askedBy who (now (text .entry)) at ⌝ }
 {
-    match field(text, at, b" ", 65535) {
+    match field(text, at, &SESSION, 65535) {
         Found::Broken => Found::Broken,
         Found::Is { value, next } => Found::Is {
             value: 16777216 + who * 65536 + value,
@@ -77,14 +82,14 @@ fn ask(text: &[u8], at: usize) -> Found
 fn turn(text: &[u8], at: usize) -> Found
     ensures { λ r. ⌜ r ≡ turnAt (now (text .entry)) at ⌝ }
 {
-    if word(text, at, b"step ") {
-        return called(text, at + 5, 0);
+    if word(text, at, &STEP) {
+        return called(text, at + STEP.len(), 0);
     }
-    if word(text, at, b"ask ") {
-        return ask(text, at + 4);
+    if word(text, at, &ASK) {
+        return ask(text, at + ASK.len());
     }
-    if word(text, at, b"leave ") {
-        return called(text, at + 6, 2);
+    if word(text, at, &LEAVE) {
+        return called(text, at + LEAVE.len(), 2);
     }
     Found::Broken
 }
@@ -93,8 +98,8 @@ fn turn(text: &[u8], at: usize) -> Found
 pub(crate) fn do_line(text: &[u8], at: usize) -> Found
     ensures { λ r. ⌜ r ≡ doLineAt (now (text .entry)) at ⌝ }
 {
-    if word(text, at, b"do=") {
-        line_end(text, turn(text, at + 3))
+    if word(text, at, &DO) {
+        line_end(text, turn(text, at + DO.len()))
     } else {
         Found::Broken
     }

@@ -8,6 +8,8 @@ use crate::Found;
 use crate::Reading;
 use crate::lines::do_line;
 use crate::lines::line;
+use crate::spelling::CEILING;
+use crate::spelling::CLAIMANTS;
 
 // The do lines from a place on, of a case with these two numbers: their entries go into the first places of a draft.
 fn do_lines(text: &[u8], from: usize, claimants: u32, ceiling: u32, draft: &mut [u32]) -> Reading
@@ -61,7 +63,7 @@ pub(crate) fn drafted(text: &[u8], draft: &mut [u32]) -> Reading
     let Found::Is {
         value: claimants,
         next: second,
-    } = line(text, 0, b"claimants=", 4294967295)
+    } = line(text, 0, &CLAIMANTS, 4294967295)
     else {
         return Reading::Refused {
             number: 12,
@@ -71,7 +73,7 @@ pub(crate) fn drafted(text: &[u8], draft: &mut [u32]) -> Reading
     let Found::Is {
         value: ceiling,
         next: third,
-    } = line(text, second, b"ceiling=", 4294967295)
+    } = line(text, second, &CEILING, 4294967295)
     else {
         return Reading::Refused {
             number: 12,
