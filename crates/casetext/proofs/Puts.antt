@@ -1,11 +1,12 @@
 -- Texts written one after the other make up one text; digits written are the numeral.
 -- Assumes nothing.
 use Prim.Native.Nat.{ℕ, zero, suc, _+_, _-_, _/_, _^_, _≤_, _<_}
+use native.Mathlib.Nat.{add-zero}
 use native.Mathlib.Omega.{arith}
-use mathlib.Core.Path.{_≡_, sym, ap, _∙_}
-use mathlib.Core.List.{List, [], _∷_, _++_, append-assoc}
+use mathlib.Core.Path.{_≡_, refl, sym, ap, _∙_}
+use mathlib.Core.List.{List, [], _∷_, _++_, append-nil, append-assoc}
 use native.Mathlib.Numerals.{add-one}
-use lib.ListN.{length, take, drop, set, length-append, length-drop}
+use lib.ListN.{length, take, drop, set, length-append, length-drop, take-append-drop}
 use lib.Seq.{set-split, take-at, drop-at, drop-drop, length-take-le, take-length, paste}
 use lib.Dec.{ltb}
 use borrow.Author.Tests.{ltb-true, ltb-false}
@@ -53,6 +54,44 @@ module _ {held : List ℕ} {at : ℕ} (w v : List ℕ) (room : Room held at (w +
       ends = omega (arith, p .ends, q .ends, length-append w v);
       row = q .row ∙ rw (p .row, p .ends) (put-put held at w (room-first .fits) v);
     }
+
+-- A text that is written piece by piece: what was written, and then what is still to come, make up the whole.
+pub record Onward (held : List ℕ) (from : ℕ) (whole rest : List ℕ) (out : List ℕ) (at : ℕ) : Type 0 where
+  pub done : List ℕ
+  pub wrote : Wrote held from done at out
+  pub splits : whole ≡ done ++ rest
+
+pub onward-start : (held : List ℕ) (from : ℕ) (whole : List ℕ) → Onward held from whole whole held from
+unfolding put
+onward-start held from whole = record { done = []; wrote = record { ends = omega arith; row = none }; splits = refl }
+  where
+    none : held ≡ put held from []
+    none = rw (append-nil, add-zero from) (sym (take-append-drop from held))
+
+module _ {held whole rest out : List ℕ} {from at : ℕ} (room : Room held from whole) (o : Onward held from whole rest out at) where
+  pub onward-size : length out ≡ length held
+  onward-size =
+      rw (o .wrote .row)
+      (length-put held from (o .done) (omega (arith, room .fits, ap length (o .splits), length-append (o .done) rest)))
+
+  -- what comes next has room, and once it is written there is less to come
+  module _ (next later : List ℕ) (e : rest ≡ next ++ later) where
+    one-more : whole ≡ (o .done ++ next) ++ later
+    one-more = o .splits ∙ rw e (sym (append-assoc (o .done) next later))
+
+    both : Room held from (o .done ++ next)
+    both = record { fits = omega (arith, room .fits, ap length one-more, length-append (o .done ++ next) later) }
+
+    pub onward-room : Room out at next
+    onward-room = room-second (o .done) next both (o .wrote)
+
+    pub onward-more : {after : List ℕ} {to : ℕ} → Wrote out at next to after → Onward held from whole later after to
+    onward-more w = record { done = o .done ++ next; wrote = wrote-both (o .done) next both (o .wrote) w; splits = one-more }
+
+  pub onward-end : rest ≡ [] → Wrote held from whole at out
+  onward-end e =
+      let d : o .done ++ rest ≡ o .done = rw (e, append-nil) in
+      rw (o .splits ∙ d) (o .wrote)
 
 -- a single digit, stored as a byte
 one-put : (held : List ℕ) (at d : ℕ) → at + 1 ≤ length held → Wrote held at (d ∷ []) (at + 1) (set held at d)

@@ -1,24 +1,21 @@
 -- A schedule's entries, one by one: whether refusal 9 names one, and the do lines of their calls.
 -- Assumes nothing.
 use Prim.Native.Nat.{ℕ, zero, suc, _+_, _*_, _≤_, _<_}
-use native.Mathlib.Nat.{add-zero}
 use native.Mathlib.Numerals.{add-one}
 use native.Mathlib.Omega.{arith}
-use mathlib.Core.Bool.{Bool, true, false}
-use mathlib.Core.Path.{_≡_, refl, sym, ap, _∙_}
-use mathlib.Core.List.{List, [], _∷_, _++_, append-nil, append-assoc, map}
-use lib.ListN.{length, getD, drop, length-append, drop-of-length-le, take-append-drop}
+use mathlib.Core.Bool.{true, false}
+use mathlib.Core.Path.{_≡_, sym, ap}
+use mathlib.Core.List.{List, [], _∷_, _++_, map}
+use lib.ListN.{length, getD, drop, length-append, drop-of-length-le}
 use lib.Seq.{drop-cons}
 use borrow.Table.Steps.{cases as decide}
 use Rattle.rules.specs.Tests.{_or_}
 use Rattle.store.specs.Schedules.{isNine, callOf}
 use Rattle.casetext.specs.Layout.{turnText, doText, doTexts}
-use Rattle.casetext.specs.Writing.{put, Room, Wrote}
 use Rattle.casetext.specs.Written.{someNine}
 use Rattle.casetext.specs.RoundTrips.{SomeNine, NoNine}
 use Rattle.casetext.proofs.Finding.{true-not-false}
 use Rattle.casetext.proofs.Measures.{do-size}
-use Rattle.casetext.proofs.Puts.{length-put, room-second, wrote-both}
 
 -- The do lines of a schedule.
 abbrev pub lines : List ℕ → List ℕ
@@ -80,50 +77,3 @@ adding-more {es} {bytes} {i} a h e m =
 
 pub adding-end : {es : List ℕ} {bytes i : ℕ} → Adding es bytes i → length es ≤ i → bytes ≡ length (lines es)
 adding-end {es} {bytes} {i} a h = omega (arith, a .whole, ap length (lines-over es i h))
-
--- They are written one by one: what was written, and then the lines still to come, make up the whole.
-pub record Putting (held es : List ℕ) (from : ℕ) (out : List ℕ) (at i : ℕ) : Type 0 where
-  pub low : i ≤ length es
-  pub done : List ℕ
-  pub wrote : Wrote held from done at out
-  pub whole : lines es ≡ done ++ lines (drop i es)
-
-module _ (held es : List ℕ) (from : ℕ) (room : Room held from (lines es)) where
-  pub putting-start : Putting held es from held from 0
-  unfolding put
-  putting-start = record { low = omega arith; done = []; wrote = record { ends = omega arith; row = none }; whole = refl }
-    where
-      none : held ≡ put held from []
-      none = rw (append-nil, add-zero from) (sym (take-append-drop from held))
-
-  module _ {out : List ℕ} {at i : ℕ} (p : Putting held es from out at i) where
-    pub putting-size : length out ≡ length held
-    putting-size =
-        rw (p .wrote .row)
-        (length-put held from (p .done) (omega (arith, room .fits, ap length (p .whole), length-append (p .done) (lines (drop i es)))))
-
-    module _ (h : i < length es) where
-      abbrev next : List ℕ
-      next = doText (callOf (getD es i 0))
-
-      one : lines es ≡ p .done ++ next ++ lines (drop (i + 1) es)
-      one = p .whole ∙ rw (lines-next es i h) (sym (append-assoc (p .done) next (lines (drop (i + 1) es))))
-
-      fits : Room held from (p .done ++ next)
-      fits = record { fits = omega (arith, room .fits, ap length one, length-append (p .done ++ next) (lines (drop (i + 1) es))) }
-
-      pub putting-room : Room out at next
-      putting-room = room-second (p .done) next fits (p .wrote)
-
-      pub putting-more : {after : List ℕ} {to : ℕ} → Wrote out at next to after → Putting held es from after to (i + 1)
-      putting-more w = record {
-        low = omega arith;
-        done = p .done ++ next;
-        wrote = wrote-both (p .done) next fits (p .wrote) w;
-        whole = one;
-      }
-
-    pub putting-end : length es ≤ i → Wrote held from (lines es) at out
-    putting-end h =
-        let e : p .done ++ lines (drop i es) ≡ p .done = rw (lines-over es i h, append-nil) in
-        rw (p .whole ∙ e) (p .wrote)

@@ -1,12 +1,12 @@
--- `casetext::reporting::put_run` meets its contract: each turn of its loop is one of `Running`'s. Assumes nothing.
+-- `casetext::reporting::put_run` meets its contract: each turn of its loop writes the next report. Assumes nothing.
 use borrow.Author.Needs.{needs}
-use Prim.Native.Nat.{_-_, _*_}
+use Prim.Native.Nat.{_-_, _*_, _≤_}
 use mathlib.Core.Path.{_≡_, _∙_}
 use native.Mathlib.Omega.{arith}
 use lib.ListN.{length, length-drop}
 use denote.Ref.{now}
-use Rattle.casetext.proofs.Runs.{Running, running-start, running-room, running-more, running-end, running-size, part-rest}
-use Rattle.casetext.proofs.Puts.{room-second, wrote-both}
+use Rattle.casetext.proofs.Runs.{reports, reports-next, reports-over, reports-room, part-rest}
+use Rattle.casetext.proofs.Puts.{room-second, wrote-both, Onward, onward-start, onward-room, onward-more, onward-end, onward-size}
 use Rattle.casetext.specs.Words.{ascii}
 use Rattle.casetext.specs.Layout.{lineText}
 use Rattle.casetext.specs.Report.{entriesText, runText}
@@ -14,13 +14,13 @@ use Rattle.casetext.proofs.reporting.put_run.Statement.{statement}
 use Rattle.casetext.proofs.reporting.put_run.Tie as tie
 
 abbrev Inv-loop : tie.InvT-loop
-Inv-loop out₀ entries left at₀ i₀ t6 out at i = Running out₀ entries left out at i
+Inv-loop out₀ entries left at₀ i₀ t6 out at i = (i ≤ length entries) × Onward out₀ 0 (reports entries left 0) (reports entries left i) out at
 
 abbrev μ-loop : tie.MeasureT-loop
 μ-loop out₀ entries left at₀ i₀ t6 out at i = length entries - i
 
 loop-holds : tie.Need-loop-holds Inv-loop μ-loop
-loop-holds c = running-start _ _ _
+loop-holds c = (omega arith, onward-start _ _ _)
 
 cast-put-entry : tie.Need-cast-put-entry Inv-loop μ-loop
 cast-put-entry c = omega arith
@@ -56,7 +56,7 @@ put-entry-requires c κs =
     let l = c .before .before .before .before .loop in
     let es = now (a .entries) in
     let ns = now (a .left) in
-    rw (part-rest ns (5 * l .i)) (rw length-drop (omega arith), running-room (now (a .out)) es ns (s .pre .1 .1) (l .inv) (omega arith))
+    rw (part-rest ns (5 * l .i)) (rw length-drop (omega arith), onward-room (reports-room es ns (s .pre .1 .1)) (l .inv .1) _ _ (reports-next es ns (l .i) (omega arith)))
 
 add-i : tie.Need-add-i Inv-loop μ-loop
 add-i c = omega arith
@@ -71,7 +71,7 @@ loop-again c =
     let l = c .before .before .before .before .before .before .before .loop in
     let es = now (a .entries) in
     let ns = now (a .left) in
-    running-more (now (a .out)) es ns (s .pre .1 .1) (l .inv) (omega arith) (rw (part-rest ns (5 * l .i)) at (c .before .before .put-entry .ensures))
+    (omega arith, onward-more (reports-room es ns (s .pre .1 .1)) (l .inv .1) _ _ (reports-next es ns (l .i) (omega arith)) (rw (part-rest ns (5 * l .i)) at (c .before .before .put-entry .ensures)))
 
 slice-aggregate-put-line : tie.Need-slice-aggregate-put-line Inv-loop μ-loop
 slice-aggregate-put-line c = search needs
@@ -88,7 +88,7 @@ put-line-requires c κs =
     let es = now (a .entries) in
     let ns = now (a .left) in
     let e : l .i ≡ length es = omega arith in
-    rw e (room-second (entriesText 1 es ns) (lineText (ascii "end=") (length es)) (s .pre .1 .1) (running-end (now (a .out)) es ns (s .pre .1 .1) (l .inv) (omega arith)))
+    rw e (room-second (entriesText 1 es ns) (lineText (ascii "end=") (length es)) (s .pre .1 .1) (onward-end (reports-room es ns (s .pre .1 .1)) (l .inv .1) (reports-over es ns (l .i) (omega arith))))
 
 same-length : tie.Need-same-length Inv-loop μ-loop
 same-length c =
@@ -97,7 +97,7 @@ same-length c =
     let l = c .before .before .before .before .before .before .loop in
     let es = now (a .entries) in
     let ns = now (a .left) in
-    c .before .before .put-line .kept .0 ∙ running-size (now (a .out)) es ns (s .pre .1 .1) (l .inv)
+    c .before .before .put-line .kept .0 ∙ onward-size (reports-room es ns (s .pre .1 .1)) (l .inv .1)
 
 returns : tie.Need-returns Inv-loop μ-loop
 unfolding runText
@@ -108,7 +108,7 @@ returns c =
     let es = now (a .entries) in
     let ns = now (a .left) in
     let e : l .i ≡ length es = omega arith in
-    wrote-both (entriesText 1 es ns) (lineText (ascii "end=") (length es)) (s .pre .1 .1) (running-end (now (a .out)) es ns (s .pre .1 .1) (l .inv) (omega arith)) (rw e at (c .before .before .put-line .ensures))
+    wrote-both (entriesText 1 es ns) (lineText (ascii "end=") (length es)) (s .pre .1 .1) (onward-end (reports-room es ns (s .pre .1 .1)) (l .inv .1) (reports-over es ns (l .i) (omega arith))) (rw e at (c .before .before .put-line .ensures))
 
 pub put-run-spec : {M : Type 1} → statement M
 put-run-spec =
