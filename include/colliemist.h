@@ -2,6 +2,7 @@
  * case texts read and written.
  *
  * Link with libcolliemist.a, which `rt staticlib colliemist` writes (x86-64).
+ * No pointer may be NULL, also where there are 0 bytes or numbers behind it.
  */
 #ifndef COLLIEMIST_H
 #define COLLIEMIST_H

@@ -13,7 +13,7 @@ pub mod Puts
 pub mod Measures
 pub mod Schedules
 pub mod Refusals
-pub mod Trips
+pub mod RoundTrips
 pub mod Longest
 pub mod Runs
 pub mod Lengths

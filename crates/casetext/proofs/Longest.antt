@@ -11,7 +11,8 @@ use Rattle.store.specs.Schedules.{isNine, callOf}
 use Rattle.casetext.specs.Numerals.{numeral}
 use Rattle.casetext.specs.Layout.{entry, headText, doText, doTexts}
 use Rattle.casetext.specs.Written.{someNine, scheduleText, written}
-use Rattle.casetext.specs.RoundTrips.{EachHappens, WriterHappens}
+use Rattle.casetext.specs.Answers.{writtenNumber, writtenBytes}
+use Rattle.casetext.specs.RoundTrips.{WriterHappens}
 use Rattle.casetext.specs.declared.Written.the-variants.{Bytes, Refused}
 use Rattle.casetext.proofs.Measures.{size-one, size-at, head-size, ask-size, do-size}
 use Rattle.casetext.proofs.Schedules.{lines}
@@ -95,10 +96,10 @@ barred-last m lent =
 
 pub writer-happens : WriterHappens
 writer-happens lent room = record {
-  most = asks-written 2046 refl lent room;
-  over = asks-over 2046 refl lent room;
-  nobody = nobody lent (omega arith);
-  no-room = no-room;
-  many = steps-many 2049 refl lent;
-  barred = barred-last 2049 lent;
+  most = ap writtenBytes (asks-written 2046 refl lent room);
+  over = ap writtenNumber (asks-over 2046 refl lent room);
+  nobody = ap writtenBytes (nobody lent (omega arith));
+  no-room = ap writtenNumber no-room;
+  many = ap writtenNumber (steps-many 2049 refl lent);
+  barred = ap writtenNumber (barred-last 2049 lent);
 }

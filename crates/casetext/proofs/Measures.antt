@@ -1,17 +1,14 @@
 -- How long numbers, lines and schedules' texts are.
 -- Assumes nothing.
-use Prim.Native.Nat.{ℕ, zero, suc, _+_, _*_, _/_, _^_, _≤_, _<_}
+use Prim.Native.Nat.{ℕ, zero, suc, _+_, _/_, _^_, _≤_, _<_}
 use native.Mathlib.Omega.{arith}
 use mathlib.Core.Path.{_≡_, ap, _∙_}
-use mathlib.Core.List.{List, [], _∷_, map}
 use lib.ListN.{length, length-append}
 use Rattle.rules.specs.declared.Call.{Call}
 use Rattle.rules.specs.declared.Call.the-variants.{Ask, Step, Leave}
-use Rattle.store.specs.Schedules.{callOf}
 use Rattle.casetext.specs.Numerals.{numeral}
-use Rattle.casetext.specs.Layout.{InRange, headText, turnText, doText, doTexts}
+use Rattle.casetext.specs.Layout.{headText, turnText, doText}
 use Rattle.casetext.proofs.Numerals.{numeral-one, numeral-more}
-use Rattle.casetext.proofs.Puts.{numeral-short}
 
 pub size-one : (n : ℕ) → n < 10 → length (numeral n) ≡ 1
 size-one n h = ap length (numeral-one n h)

@@ -6,7 +6,7 @@ ghost use mathlib.Core.List.{map};
 ghost use lib.ListN.{length};
 ghost use Rattle.store.specs.Schedules.{callOf};
 ghost use Rattle.casetext.specs.Numerals.{numeral};
-ghost use Rattle.casetext.specs.Layout.{headText, turnText, doText, doTexts};
+ghost use Rattle.casetext.specs.Layout.{headText, turnText, doTexts};
 ghost use Rattle.casetext.specs.Written.{someNine};
 use crate::spelling::ASK;
 use crate::spelling::CEILING;

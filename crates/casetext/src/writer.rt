@@ -1,13 +1,11 @@
 // The writer of case texts.
 ghost use mathlib.Core.Path.{_≡_};
-ghost use Prim.Native.Nat.{_≤_};
 ghost use mathlib.Core.Bool.{false};
 ghost use mathlib.Core.List.{map};
-ghost use lib.ListN.{length};
 ghost use Rattle.store.specs.Schedules.{callOf};
 ghost use Rattle.casetext.specs.Layout.{headText, turnText, doText, doTexts};
 ghost use Rattle.casetext.specs.Writing.{Room, Wrote};
-ghost use Rattle.casetext.specs.Written.{someNine, scheduleText, written, writtenRow};
+ghost use Rattle.casetext.specs.Written.{someNine, written, writtenRow};
 use crate::Written;
 use crate::sizes::head_size;
 use crate::sizes::lines_size;

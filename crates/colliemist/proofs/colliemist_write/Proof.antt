@@ -3,7 +3,7 @@ use borrow.Author.Needs.{needs}
 use mathlib.Core.Path.{sym, ap, _∙_}
 use mir.Syntax.{w64}
 use mir.ValLaws.{toZ-ofZ}
-use Rattle.casetext.proofs.Trips.{written-within}
+use Rattle.casetext.proofs.RoundTrips.{written-within}
 use Rattle.colliemist.specs.Count.{bytesOr}
 use Rattle.colliemist.proofs.colliemist_write.Statement.{statement}
 use Rattle.colliemist.proofs.colliemist_write.Tie as tie

@@ -2,7 +2,7 @@
 use borrow.Author.Needs.{needs}
 use mathlib.Core.Path.{sym, _∙_}
 use lib.Seq.{length-take-le}
-use Rattle.casetext.proofs.Trips.{written-within}
+use Rattle.casetext.proofs.RoundTrips.{written-within}
 use Rattle.edges.proofs.tell_written.Statement.{statement}
 use Rattle.edges.proofs.tell_written.Tie as tie
 

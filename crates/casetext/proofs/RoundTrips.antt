@@ -1,27 +1,24 @@
 -- The promises of the writer, kept.
 -- Assumes nothing.
-use Prim.Native.Nat.{ℕ, zero, suc, _≤_, _<_}
+use Prim.Native.Nat.{ℕ, _≤_}
 use native.Mathlib.Omega.{arith}
 use mathlib.Core.Bool.{true, false}
 use mathlib.Core.Path.{_≡_, refl, sym, ap, _∙_}
-use mathlib.Core.Logic.{_↔_}
+use mathlib.Core.Logic.{_≢_}
 use mathlib.Core.List.{List, [], _∷_, _++_, map}
 use lib.Dec.{eqb, ltb}
-use lib.ListN.{length, getD, take, drop, length-map}
+use lib.ListN.{length, take, drop, length-map}
 use lib.Seq.{take-at}
 use borrow.Author.Tests.{ltb-true, ltb-false, eqb-true, eqb-false, ne-eqb}
 use borrow.Table.Steps.{cases as decide}
 use Rattle.rules.specs.declared.Call.{Call}
-use Rattle.rules.specs.declared.Call.the-variants.{Ask, Step, Leave}
-use Rattle.store.specs.Schedules.{kindIn, claimantIn, sessionIn, isNine, callOf}
-use Rattle.casetext.specs.Layout.{InRange, AllInRange, entryOf, caseText}
-use Rattle.casetext.specs.Reading.{reading, readInto}
-use Rattle.casetext.specs.Reading.Said.{accepted}
+use Rattle.store.specs.Schedules.{kindIn, sessionIn, isNine, callOf}
+use Rattle.casetext.specs.Layout.{InRange, AllInRange, entryOf}
+use Rattle.casetext.specs.Answers.{writtenNumber, writtenBytes}
 use Rattle.casetext.specs.Promises.{IsCase}
 use Rattle.casetext.specs.Written.{someNine, scheduleText, writeRefusal, written, writtenRow}
 use Rattle.casetext.specs.RoundTrips.{ReadsBack, WritesBack, SomeNine, NoNine, WriterCause, WriterRefuses, RefusedWriting, AcceptedWriting, WrittenWithin}
 use Rattle.casetext.specs.RoundTrips.WriterCause.{barred, many, long, short}
-use Rattle.casetext.specs.declared.Written.{Written}
 use Rattle.casetext.specs.declared.Written.the-variants.{Bytes, Refused}
 use Rattle.casetext.proofs.Finding.{true-not-false}
 use Rattle.casetext.proofs.Gathering.{room-for-all}
@@ -89,25 +86,20 @@ record Whole (n k : ℕ) (es lent : List ℕ) : Type 0 where
 
 data Verdict (n k : ℕ) (es lent : List ℕ) : Type 0 where
   whole : Whole n k es lent → Verdict n k es lent
-  fault : (r : ℕ) → 1 ≤ r → writeRefusal n k es (length lent) ≡ r → WriterCause n k es (length lent) r → Verdict n k es lent
+  fault : (r : ℕ) → WriterCause n k es (length lent) r → Verdict n k es lent
 
 verdict : (n k : ℕ) (es lent : List ℕ) → Verdict n k es lent
 verdict n k es lent =
-    decide (someNine es)
-    (λ t. fault 9 (omega arith) (refuses-9 n k es (length lent) t) (barred refl (some-nine es t)))
+    decide (someNine es) (λ t. fault 9 (barred refl (some-nine es t)))
     (λ t.
     let none = no-nine es t in
-    decide (ltb 2048 (length es))
-    (λ u. let h = ltb-true _ _ u in fault 13 (omega arith) (refuses-13 n k es (length lent) t h) (many refl none h))
+    decide (ltb 2048 (length es)) (λ u. fault 13 (many refl none (ltb-true _ _ u)))
     (λ u.
     let few = ltb-false _ _ u in
-    decide (ltb 32768 (length (scheduleText n k es)))
-    (λ v. let h = ltb-true _ _ v in fault 11 (omega arith) (refuses-11-long n k es (length lent) t few h) (long refl none few h))
+    decide (ltb 32768 (length (scheduleText n k es))) (λ v. fault 11 (long refl none few (ltb-true _ _ v)))
     (λ v.
-    let fits = ltb-false _ _ v in
-    decide (ltb (length lent) (length (scheduleText n k es)))
-    (λ w. let h = ltb-true _ _ w in fault 11 (omega arith) (refuses-11-short n k es (length lent) t few h) (short refl none few h))
-    (λ w. whole (record { none = t; few = few; fits = fits; room = ltb-false _ _ w })))))
+    decide (ltb (length lent) (length (scheduleText n k es))) (λ w. fault 11 (short refl none few (ltb-true _ _ w)))
+    (λ w. whole (record { none = t; few = few; fits = ltb-false _ _ v; room = ltb-false _ _ w })))))
 
 cause-refuses : (n k : ℕ) (es : List ℕ) (room r : ℕ) → WriterCause n k es room r → (1 ≤ r) × (writeRefusal n k es room ≡ r)
 cause-refuses n k es room r (barred e h) = rw e (omega arith, refuses-9 n k es room (nine-some es h))
@@ -115,50 +107,53 @@ cause-refuses n k es room r (many e o h) = rw e (omega arith, refuses-13 n k es 
 cause-refuses n k es room r (long e o m h) = rw e (omega arith, refuses-11-long n k es room (nine-none es o) m h)
 cause-refuses n k es room r (short e o m h) = rw e (omega arith, refuses-11-short n k es room (nine-none es o) m h)
 
--- An answer is of one kind only.
-not-refused {ℓ} : {A : Type ℓ} {bytes r : ℕ} → Bytes bytes ≡ Refused r → A
-not-refused e = let z : _≡_ {A = ℕ} 0 1 = cc in absurd (omega arith)
+module _ (n k : ℕ) (es lent : List ℕ) where
+  -- what is whole is written ..
+  whole-came : Whole n k es lent
+      → (written n k es lent ≡ Bytes (length (scheduleText n k es)))
+      × (writtenRow n k es lent ≡ scheduleText n k es ++ drop (length (scheduleText n k es)) lent)
+  whole-came w =
+      let t = written-as n k es lent (refuses-none n k es (length lent) (w .none) (w .few) (w .fits) (w .room)) in
+      (sym (t .0), sym (t .1))
 
-module _ {n k : ℕ} {es lent : List ℕ} where
-  whole-none : Whole n k es lent → writeRefusal n k es (length lent) ≡ 0
-  whole-none w = refuses-none n k es (length lent) (w .none) (w .few) (w .fits) (w .room)
+  cause-came : (r : ℕ) → WriterCause n k es (length lent) r → (1 ≤ r) × (written n k es lent ≡ Refused r) × (writtenRow n k es lent ≡ lent)
+  cause-came r c =
+      let p = cause-refuses n k es (length lent) r c in
+      let t = refused-as n k es lent r (p .0) (p .1) in
+      (p .0, sym (t .0), sym (t .1))
 
-  -- what was written is whole, and what is whole is written
-  whole-of : {bytes : ℕ} → written n k es lent ≡ Bytes bytes → Verdict n k es lent → Whole n k es lent × (bytes ≡ length (scheduleText n k es))
-  whole-of {bytes} e (whole w) =
-      let p : Bytes (length (scheduleText n k es)) ≡ Bytes bytes = written-as n k es lent (whole-none w) .0 ∙ e in
-      (w, cc)
-  whole-of e (fault r h q c) = not-refused (sym e ∙ sym (refused-as n k es lent r h q .0))
+  -- .. and what is not refused is whole.
+  whole-of : writtenNumber (written n k es lent) ≡ 0 → Whole n k es lent
+  whole-of e = go (verdict n k es lent)
+    where
+      go : Verdict n k es lent → Whole n k es lent
+      go (whole w) = w
+      go (fault r c) = let t = cause-came r c in absurd (omega (arith, t .0, sym (ap writtenNumber (t .1)) ∙ e))
+
+  cause-of : writtenNumber (written n k es lent) ≢ 0 → WriterCause n k es (length lent) (writtenNumber (written n k es lent))
+  cause-of h = go (verdict n k es lent)
+    where
+      go : Verdict n k es lent → WriterCause n k es (length lent) (writtenNumber (written n k es lent))
+      go (whole w) = absurd (h (ap writtenNumber (whole-came w .0)))
+      go (fault r c) = rw (cause-came r c .1) c
 
 pub writer-refuses : WriterRefuses
-writer-refuses n k es lent number = (
-  λ e. go e (verdict n k es lent),
-  λ c.
-      let r = cause-refuses n k es (length lent) number c in
-      sym (refused-as n k es lent number (r .0) (r .1) .0),
-)
-  where
-    go : written n k es lent ≡ Refused number → Verdict n k es lent → WriterCause n k es (length lent) number
-    go e (whole w) = not-refused (written-as n k es lent (whole-none w) .0 ∙ e)
-    go e (fault r h q c) =
-        let p : Refused r ≡ Refused number = refused-as n k es lent r h q .0 ∙ e in
-        let a : r ≡ number = cc in
-        rw a at c
+writer-refuses n k es lent number h =
+    (λ e. rw e at (cause-of n k es lent (λ z. omega (arith, h, sym e ∙ z))), λ c. ap writtenNumber (cause-came n k es lent number c .1))
 
 pub refused-writing : RefusedWriting
-refused-writing n k es lent number e =
-    let r = cause-refuses n k es (length lent) number (writer-refuses n k es lent number .0 e) in
-    sym (refused-as n k es lent number (r .0) (r .1) .1)
+refused-writing n k es lent h = cause-came n k es lent _ (cause-of n k es lent h) .2
 
 pub accepted-writing : AcceptedWriting
 accepted-writing n k es lent none few fits room =
-    let t = written-as n k es lent (refuses-none n k es (length lent) (nine-none es none) few fits room) in
-    (sym (t .0), sym (t .1))
+    let t = whole-came n k es lent (record { none = nine-none es none; few = few; fits = fits; room = room }) in
+    (ap writtenNumber (t .0), ap writtenBytes (t .0), t .1)
 
 pub written-within : WrittenWithin
 written-within n k es lent bytes e =
-    let w = whole-of e (verdict n k es lent) in
-    (omega (arith, w .0 .fits, w .1), omega (arith, w .0 .room, w .1))
+    let w = whole-of n k es lent (ap writtenNumber e) in
+    let b : bytes ≡ length (scheduleText n k es) = sym (ap writtenBytes e) ∙ ap writtenBytes (whole-came n k es lent w .0) in
+    (omega (arith, b, w .fits), omega (arith, b, w .room))
 
 -- A schedule's text is a case of just that schedule.
 whole-case : {n k : ℕ} {es lent : List ℕ} → n ≤ 4294967295 → k ≤ 4294967295 → Whole n k es lent → IsCase (scheduleText n k es) n k es
@@ -173,20 +168,25 @@ whole-case {n} {k} {es} hn hk w =
     }
 
 pub reads-back : ReadsBack
-reads-back n k es lent bytes row hn hk h e =
-    let w = whole-of e (verdict n k es lent) in
+reads-back n k es lent row hn hk h e =
+    let w = whole-of n k es lent e in
     let text = scheduleText n k es in
-    let t = written-as n k es lent (whole-none (w .0)) in
-    let s : take bytes (writtenRow n k es lent) ≡ text = rw (← t .1) (take-at text (drop (length text) lent) bytes (sym (w .1))) in
-    rw s (room-for-all row text h ∙ accepted-exactly text n k es .1 (whole-case hn hk (w .0)))
+    let t = whole-came n k es lent w in
+    let s : take (writtenBytes (written n k es lent)) (writtenRow n k es lent) ≡ text =
+    rw (t .0, t .1) (take-at text (drop (length text) lent) (length text) refl) in
+    rw s (room-for-all row text h ∙ accepted-exactly text n k es .1 (whole-case hn hk w))
 
 pub writes-back : WritesBack
 writes-back text lent n k es e room =
     let c = accepted-exactly text n k es .0 e in
     let b = calls-back (c .turns) (c .written .ranged) in
-    let none : someNine es ≡ false = rw (c .says) (b .0) in
     let s : scheduleText n k es ≡ text = rw (c .says, b .1) (sym (c .written .text)) in
     let l = ap length s in
-    let r = refuses-none n k es (length lent) none (case-few c) (omega (arith, l, c .short)) (omega (arith, l, room)) in
-    let t = written-as n k es lent r in
-    (sym (t .0) ∙ ap Bytes l, sym (t .1) ∙ ap (λ (x : List ℕ). x ++ drop (length x) lent) s)
+    let t =
+    whole-came n k es lent (record {
+      none = rw (c .says) (b .0);
+      few = case-few c;
+      fits = omega (arith, l, c .short);
+      room = omega (arith, l, room);
+    }) in
+    (ap writtenNumber (t .0), ap writtenBytes (t .0) ∙ l, t .1 ∙ ap (λ (x : List ℕ). x ++ drop (length x) lent) s)
