@@ -80,7 +80,7 @@ cause-small (broken a l (line-3-on n k ts rest b hn hk r m e o d)) = omega arith
 cause-small (many a l m) = omega (arith, m .at)
 
 pub case-few : {s : List ℕ} {n k : ℕ} {es : List ℕ} → IsCase s n k es → length es ≤ 2048
-case-few c = omega (arith, c .few, ap length (c .says) ∙ length-map (c .turns) entryOf)
+case-few c = omega (arith, c .few, ap length (c .says) ∙ length-map (c .calls) entryOf)
 
 said-short : (s : List ℕ) (r : Said) → reading s ≡ r → length (saidText r) ≤ 153609
 unfolding saidText openedText

@@ -26,7 +26,7 @@ use Rattle.casetext.proofs.Finding.{not-found}
 use Rattle.casetext.proofs.Gathering.{lines-end, lines-broken, lines-full}
 use Rattle.casetext.proofs.Stands.{Stands, stands-at, rest-at}
 use Rattle.casetext.proofs.Turns.{line-found, line-stands, do-found, do-stands}
-use Rattle.casetext.proofs.Texts.{inside, turns-read, Run, run}
+use Rattle.casetext.proofs.Texts.{inside, calls-read, Run, run}
 use Rattle.casetext.proofs.Texts.Run.{whole, bad, many as too-many}
 
 -- A reading is of one kind only.
@@ -83,21 +83,21 @@ head-read : {s : List ℕ} {n k : ℕ} {rest : List ℕ} → length s ≤ 32768 
 unfolding reading fromLine2 fromLine3
 head-read {s} l h = rw (le-ltb 32768 (length s) l, h .found-1, h .found-2)
 
--- Turns to the end of the text, and nothing else, are all that is read.
-turns-whole : (n k : ℕ) (s : List ℕ) (ts : List Call) (places at line : ℕ) → AllInRange ts → length ts ≤ places → drop at s ≡ doTexts ts
+-- Do lines to the end of the text, and nothing else, are all that is read.
+calls-whole : (n k : ℕ) (s : List ℕ) (ts : List Call) (places at line : ℕ) → AllInRange ts → length ts ≤ places → drop at s ≡ doTexts ts
     → doLines n k places s at line ≡ accepted n k (map entryOf ts)
 unfolding before
-turns-whole n k s ts places at line h m e =
+calls-whole n k s ts places at line h m e =
     let f : drop at s ≡ doTexts ts ++ [] = e ∙ sym (append-nil (doTexts ts)) in
     let o = at-end s (at + length (doTexts ts)) (rest-at s at (doTexts ts) [] f) in
-    turns-read n k s ts places at line [] h m f
+    calls-read n k s ts places at line [] h m f
     ∙ rw (lines-end n k s (at + length (doTexts ts)) (line + length ts) (places - length ts) o, append-nil)
 
 case-read : (s : List ℕ) (n k : ℕ) (es : List ℕ) → IsCase s n k es → reading s ≡ accepted n k es
 case-read s n k es c =
     let w = c .written in
-    let h = head s n k (doTexts (c .turns)) (w .first) (w .second) (w .text) in
-    head-read (c .short) h ∙ turns-whole n k s (c .turns) 2048 (h .third) 3 (w .ranged) (c .few) (h .left) ∙ ap (accepted n k) (sym (c .says))
+    let h = head s n k (doTexts (c .calls)) (w .first) (w .second) (w .text) in
+    head-read (c .short) h ∙ calls-whole n k s (c .calls) 2048 (h .third) 3 (w .ranged) (c .few) (h .left) ∙ ap (accepted n k) (sym (c .says))
 
 -- A text with a fault is refused for it.
 bad-read : (s : List ℕ) (line : ℕ) → length s ≤ 32768 → FirstBad s line → reading s ≡ refused 12 line
@@ -111,20 +111,20 @@ bad-read s line l (line-3-on n k ts rest e hn hk h m t o d) =
     let g = head s n k (doTexts ts ++ rest) hn hk (t ∙ append-assoc (headText n k) (doTexts ts) rest) in
     let at = g .third + length (doTexts ts) in
     let q = rest-at s (g .third) (doTexts ts) rest (g .left) in
-    head-read l g ∙ turns-read n k s ts 2048 (g .third) 3 rest h m (g .left)
+    head-read l g ∙ calls-read n k s ts 2048 (g .third) 3 rest h m (g .left)
     ∙ rw (lines-broken n k s at (3 + length ts) (before-end s at q o) (2048 - length ts) (no-do-line s at (rw q d)), e)
 
 many-read : (s : List ℕ) (line : ℕ) → length s ≤ 32768 → TooMany s line → reading s ≡ refused 13 line
 unfolding before
 many-read s line l m =
-    let ts = m .turns in
+    let ts = m .calls in
     let rest = doText (m .more) ++ m .rest in
     let g = head s (m .claimants) (m .ceiling) (doTexts ts ++ rest) (m .first) (m .second) (m .text ∙ append-assoc (headText (m .claimants) (m .ceiling)) (doTexts ts) rest) in
     let at = g .third + length (doTexts ts) in
     let q = rest-at s (g .third) (doTexts ts) rest (g .left) in
     let z : 2048 - length ts ≡ 0 = omega (arith, m .many) in
     let f = do-found (m .more) (m .in-range) (stands-at s at (doText (m .more)) (m .rest) q) in
-    head-read l g ∙ turns-read (m .claimants) (m .ceiling) s ts 2048 (g .third) 3 rest (m .ranged) (omega (arith, m .many)) (g .left)
+    head-read l g ∙ calls-read (m .claimants) (m .ceiling) s ts 2048 (g .third) 3 rest (m .ranged) (omega (arith, m .many)) (g .left)
     ∙ rw (z, lines-full (m .claimants) (m .ceiling) s at (3 + length ts) (inside s at _ _ q) f, m .many, m .at)
 
 cause-read : (s : List ℕ) (number line : ℕ) → Cause s number line → reading s ≡ refused number line
@@ -143,7 +143,7 @@ module _ (s : List ℕ) (l : length s ≤ 32768) where
   of-run n k at r hn hk t (whole ts h m e q) =
       good n k (map entryOf ts) q (record {
         short = l;
-        turns = ts;
+        calls = ts;
         written = record { first = hn; second = hk; ranged = h; text = t ∙ ap (λ (x : List ℕ). headText n k ++ x) e };
         few = m;
         says = refl;
@@ -158,7 +158,7 @@ module _ (s : List ℕ) (l : length s ≤ 32768) where
       (many refl l (record {
         claimants = n;
         ceiling = k;
-        turns = ts;
+        calls = ts;
         more = u;
         rest = rest;
         at = omega arith;
@@ -225,21 +225,21 @@ refused-exactly s number line = (λ e. go e (verdict s), cause-read s number lin
         let b : line′ ≡ line = cc in
         rw (a, b) at c
 
--- An entry says which turn it is of.
-one-turn : (t u : Call) → InRange t → InRange u → entryOf t ≡ entryOf u → t ≡ u
+-- An entry says which call it is of.
+one-call : (t u : Call) → InRange t → InRange u → entryOf t ≡ entryOf u → t ≡ u
 unfolding InRange entryOf
-one-turn (Ask w s) (Ask v r) h g e =
+one-call (Ask w s) (Ask v r) h g e =
     let a : w ≡ v = omega arith in
     let b : s ≡ r = omega arith in
     rw (a, b)
-one-turn (Ask w s) (Step v) h g e = absurd (omega arith)
-one-turn (Ask w s) (Leave v) h g e = absurd (omega arith)
-one-turn (Step w) (Ask v r) h g e = absurd (omega arith)
-one-turn (Step w) (Step v) h g e = let a : w ≡ v = omega arith in rw a
-one-turn (Step w) (Leave v) h g e = absurd (omega arith)
-one-turn (Leave w) (Ask v r) h g e = absurd (omega arith)
-one-turn (Leave w) (Step v) h g e = absurd (omega arith)
-one-turn (Leave w) (Leave v) h g e = let a : w ≡ v = omega arith in rw a
+one-call (Ask w s) (Step v) h g e = absurd (omega arith)
+one-call (Ask w s) (Leave v) h g e = absurd (omega arith)
+one-call (Step w) (Ask v r) h g e = absurd (omega arith)
+one-call (Step w) (Step v) h g e = let a : w ≡ v = omega arith in rw a
+one-call (Step w) (Leave v) h g e = absurd (omega arith)
+one-call (Leave w) (Ask v r) h g e = absurd (omega arith)
+one-call (Leave w) (Step v) h g e = absurd (omega arith)
+one-call (Leave w) (Leave v) h g e = let a : w ≡ v = omega arith in rw a
 
 one-schedule : (ts us : List Call) → AllInRange ts → AllInRange us → map entryOf ts ≡ map entryOf us → ts ≡ us
 unfolding AllInRange
@@ -249,7 +249,7 @@ one-schedule (t ∷ ts) [] h g e = let z : _≡_ {A = ℕ} 0 1 = cc in absurd (o
 one-schedule (t ∷ ts) (u ∷ us) h g e =
     let a : entryOf t ≡ entryOf u = cc in
     let b : map entryOf ts ≡ map entryOf us = cc in
-    rw (one-turn t u (h .0) (g .0) a, one-schedule ts us (h .1) (g .1) b)
+    rw (one-call t u (h .0) (g .0) a, one-schedule ts us (h .1) (g .1) b)
 
 pub one-reading : OneReading
 one-reading s n k n′ k′ ts ts′ w w′ =
@@ -260,12 +260,12 @@ one-reading s n k n′ k′ ts ts′ w w′ =
     let c : Is k (h .third) ≡ Is k′ (g .third) = sym (h .found-2) ∙ rw b (g .found-2) in
     let d : h .third ≡ g .third = cc in
     let places = length ts + length ts′ in
-    let p = turns-whole 0 0 s ts places (h .third) 3 (w .ranged) (omega arith) (h .left) in
-    let q = turns-whole 0 0 s ts′ places (h .third) 3 (w′ .ranged) (omega arith) (rw d (g .left)) in
+    let p = calls-whole 0 0 s ts places (h .third) 3 (w .ranged) (omega arith) (h .left) in
+    let q = calls-whole 0 0 s ts′ places (h .third) 3 (w′ .ranged) (omega arith) (rw d (g .left)) in
     let r : accepted 0 0 (map entryOf ts) ≡ accepted 0 0 (map entryOf ts′) = sym p ∙ q in
     (cc, cc, one-schedule ts ts′ (w .ranged) (w′ .ranged) (cc))
 
--- A turn's entry makes the call that it says.
+-- The entry of a call makes that call.
 abbrev Makes : (entry : ℕ) → Call → Type 0
 Makes e t = (isNine e ≡ false) × (callOf e ≡ t)
 
@@ -287,7 +287,7 @@ unfolding AllInRange
 all-rest t ts r = r .1
 
 pub entries-made : EntriesMade
-entries-made s n k es c i h = rw (c .says) (at (c .turns) (c .written .ranged) i (rw (c .says) at h))
+entries-made s n k es c i h = rw (c .says) (at (c .calls) (c .written .ranged) i (rw (c .says) at h))
   where
     at : (ts : List Call) → AllInRange ts → (i : ℕ) → i < length (map entryOf ts) → Makes (getD (map entryOf ts) i 0) (getD ts i (Step 0))
     at [] r i h = absurd (omega arith)

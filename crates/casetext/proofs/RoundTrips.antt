@@ -161,7 +161,7 @@ whole-case {n} {k} {es} hn hk w =
     let b = schedule-back es (w .none) in
     record {
       short = w .fits;
-      turns = map callOf es;
+      calls = map callOf es;
       written = record { first = hn; second = hk; ranged = b .0; text = refl };
       few = rw (length-map es callOf) (w .few);
       says = sym (b .1);
@@ -179,7 +179,7 @@ reads-back n k es lent row hn hk h e =
 pub writes-back : WritesBack
 writes-back text lent n k es e room =
     let c = accepted-exactly text n k es .0 e in
-    let b = calls-back (c .turns) (c .written .ranged) in
+    let b = calls-back (c .calls) (c .written .ranged) in
     let s : scheduleText n k es ≡ text = rw (c .says, b .1) (sym (c .written .text)) in
     let l = ap length s in
     let t =

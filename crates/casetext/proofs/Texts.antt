@@ -27,19 +27,19 @@ pub inside : (s : List ℕ) (at b : ℕ) (l : List ℕ) → drop at s ≡ b ∷ 
 inside s at b l e = omega (arith, sym (length-drop at s) ∙ ap length e)
 
 module _ (n k : ℕ) (s : List ℕ) where
-  -- turns that stand at a place are read, and then what comes after them
-  pub turns-read : (ts : List Call) (places at line : ℕ) (rest : List ℕ) → AllInRange ts → length ts ≤ places → drop at s ≡ doTexts ts ++ rest
+  -- calls that stand at a place are read, and then what comes after them
+  pub calls-read : (ts : List Call) (places at line : ℕ) (rest : List ℕ) → AllInRange ts → length ts ≤ places → drop at s ≡ doTexts ts ++ rest
       → doLines n k places s at line
       ≡ before (map entryOf ts) (doLines n k (places - length ts) s (at + length (doTexts ts)) (line + length ts))
   unfolding AllInRange doTexts
-  turns-read [] places at line rest h m e =
+  calls-read [] places at line rest h m e =
       rw (sub-zero, add-zero at, add-zero line) (sym (before-none (doLines n k places s at line)))
-  turns-read (t ∷ ts) zero at line rest h m e = absurd (omega arith)
-  turns-read (t ∷ ts) (suc p) at line rest h m e =
+  calls-read (t ∷ ts) zero at line rest h m e = absurd (omega arith)
+  calls-read (t ∷ ts) (suc p) at line rest h m e =
       let next = at + length (doText t) in
       let f : drop at s ≡ doText t ++ (doTexts ts ++ rest) = e ∙ append-assoc (doText t) (doTexts ts) rest in
       let d = do-found t (h .0) (stands-at s at (doText t) (doTexts ts ++ rest) f) in
-      let ih = turns-read ts p next (line + 1) rest (h .1) (omega arith) (rest-at s at (doText t) (doTexts ts ++ rest) f) in
+      let ih = calls-read ts p next (line + 1) rest (h .1) (omega arith) (rest-at s at (doText t) (doTexts ts ++ rest) f) in
       let a : suc p - length (t ∷ ts) ≡ p - length ts = omega arith in
       let b : at + length (doText t ++ doTexts ts) ≡ next + length (doTexts ts) = omega (arith, length-append (doText t) (doTexts ts)) in
       let c : line + length (t ∷ ts) ≡ line + 1 + length ts = omega arith in

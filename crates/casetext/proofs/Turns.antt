@@ -1,4 +1,4 @@
--- A line is found just where its text stands: fields, lines of a number, turns, do lines.
+-- A line is found just where its text stands: fields, lines of a number, what stands after `do=`, do lines.
 -- Assumes nothing.
 use Prim.Native.Nat.{ℕ, _+_, _≤_}
 use native.Mathlib.Omega.{arith}
@@ -92,7 +92,7 @@ turn-found (Leave who) h p d =
     let a = number-found 255 who h (stands-right (ascii "leave ") (numeral who) p) d in
     rw (p .text) (rw a)
 
--- a turn that was found, with the entry that it says
+-- a call that was found after `do=`, with its entry
 pub record TurnStands (s : List ℕ) (at e next : ℕ) : Type 0 where
   pub turn : Call
   pub ranged : InRange turn

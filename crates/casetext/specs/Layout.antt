@@ -52,9 +52,9 @@ headText n k = lineText (ascii "claimants=") n ++ lineText (ascii "ceiling=") k
 abbrev pub caseText : (claimants ceiling : ℕ) → List Call → List ℕ
 caseText n k ts = headText n k ++ doTexts ts
 
--- A text keeps the layout if it is the lines of some numbers and turns in range.
-pub record Writes (s : List ℕ) (claimants ceiling : ℕ) (turns : List Call) : Type 0 where
+-- A text keeps the layout if it is the lines of some numbers and calls in range.
+pub record Writes (s : List ℕ) (claimants ceiling : ℕ) (calls : List Call) : Type 0 where
   pub first : claimants ≤ 4294967295
   pub second : ceiling ≤ 4294967295
-  pub ranged : AllInRange turns
-  pub text : s ≡ caseText claimants ceiling turns
+  pub ranged : AllInRange calls
+  pub text : s ≡ caseText claimants ceiling calls

@@ -17,13 +17,13 @@ use Rattle.casetext.specs.declared.Reading.the-variants.{Case}
 use Rattle.casetext.specs.declared.Reported.the-variants.{Printed}
 use Rattle.casetext.specs.Reading.Said.{accepted, refused}
 
--- A text that is a case: short enough, in the layout, with at most 2,048 do lines. The entries are those of its turns.
+-- A text that is a case: short enough, in the layout, with at most 2,048 do lines. The entries are those of its calls.
 pub record IsCase (s : List ℕ) (claimants ceiling : ℕ) (entries : List ℕ) : Type 0 where
   pub short : length s ≤ 32768
-  pub turns : List Call
-  pub written : Writes s claimants ceiling turns
-  pub few : length turns ≤ 2048
-  pub says : entries ≡ map entryOf turns
+  pub calls : List Call
+  pub written : Writes s claimants ceiling calls
+  pub few : length calls ≤ 2048
+  pub says : entries ≡ map entryOf calls
 
 -- A text is accepted exactly if it is a case, with the very numbers and entries that write it.
 abbrev pub AcceptedExactly : Type 0
@@ -56,16 +56,16 @@ pub data FirstBad (s : List ℕ) (line : ℕ) : Type 0 where
 pub record TooMany (s : List ℕ) (line : ℕ) : Type 0 where
   pub claimants : ℕ
   pub ceiling : ℕ
-  pub turns : List Call
+  pub calls : List Call
   pub more : Call
   pub rest : List ℕ
   pub at : line ≡ 2051
   pub first : claimants ≤ 4294967295
   pub second : ceiling ≤ 4294967295
-  pub ranged : AllInRange turns
-  pub many : length turns ≡ 2048
+  pub ranged : AllInRange calls
+  pub many : length calls ≡ 2048
   pub in-range : InRange more
-  pub text : s ≡ caseText claimants ceiling turns ++ (doText more ++ rest)
+  pub text : s ≡ caseText claimants ceiling calls ++ (doText more ++ rest)
 
 -- Why a text is refused with this number at this line.
 pub data Cause (s : List ℕ) (number line : ℕ) : Type 0 where
@@ -109,7 +109,7 @@ ReadWithin = (row s : List ℕ) (claimants ceiling count : ℕ) → told (readIn
 abbrev pub EntriesMade : Type 0
 EntriesMade =
     (s : List ℕ) (n k : ℕ) (entries : List ℕ) (c : IsCase s n k entries) (i : ℕ) → i < length entries
-    → let e = getD entries i 0 in (isNine e ≡ false) × (callOf e ≡ getD (c .turns) i (Step 0))
+    → let e = getD entries i 0 in (isNine e ≡ false) × (callOf e ≡ getD (c .calls) i (Step 0))
 
 -- No report is longer than the row that every report fits.
 abbrev pub ReportFits : Type 0
