@@ -12,7 +12,7 @@ use borrow.Table.Steps.{cases as decide}
 use Rattle.casetext.specs.Reading.{Said, reading, readInto, told, rowAfter}
 use Rattle.casetext.specs.Reading.Said.{accepted, refused}
 use Rattle.casetext.specs.Answers.{readingNumber, readingLine}
-use Rattle.casetext.specs.Promises.{Cause, ReaderCause, ReaderRefuses, RefusedReading, AcceptedReading, ReadWithin}
+use Rattle.casetext.specs.Promises.{IsCase, Cause, ReaderCause, ReaderRefuses, RefusedReading, AcceptedReading, ReadWithin}
 use Rattle.casetext.specs.Promises.ReaderCause.{short, of-text}
 use Rattle.casetext.specs.declared.Reading.the-variants.{Case}
 use Rattle.casetext.proofs.Lengths.{case-few}
@@ -60,12 +60,13 @@ unfolding readInto told rowAfter
 accepted-reading row s n k es l c =
     rw (le-ltb (length row) 2048 l, accepted-exactly s n k es .1 c) (refl, refl, refl)
 
-few-read : (row s : List ℕ) (n k : ℕ) (es : List ℕ) → readInto row s ≡ accepted n k es → length es ≤ 2048
+-- What was accepted with a row is a case.
+pub read-case : (row s : List ℕ) (n k : ℕ) (es : List ℕ) → readInto row s ≡ accepted n k es → IsCase s n k es
 unfolding readInto
-few-read row s n k es e =
+read-case row s n k es e =
     decide (ltb (length row) 2048)
     (λ t. not-refused (sym (rw t at e)))
-    (λ t. case-few (accepted-exactly s n k es .0 (rw t at e)))
+    (λ t. accepted-exactly s n k es .0 (rw t at e))
 
 pub read-within : ReadWithin
 unfolding told
@@ -74,5 +75,5 @@ read-within row s n k count e = go (readInto row s) refl e
     go : (r : Said) → readInto row s ≡ r → told r ≡ Case n k count → count ≤ 2048
     go (accepted a b es) q t =
         let z : length es ≡ count = cc in
-        omega (arith, few-read row s a b es q)
+        omega (arith, case-few (read-case row s a b es q))
     go (refused number line) q t = let z : _≡_ {A = ℕ} 0 1 = cc in absurd (omega arith)

@@ -24,6 +24,7 @@ use Rattle.casetext.proofs.Finding.{true-not-false}
 use Rattle.casetext.proofs.Gathering.{room-for-all}
 use Rattle.casetext.proofs.Promises.{accepted-exactly, made}
 use Rattle.casetext.proofs.Lengths.{case-few}
+use Rattle.casetext.proofs.Readings.{read-case}
 use Rattle.casetext.proofs.Schedules.{some-nine, no-nine}
 use Rattle.casetext.proofs.Refusals.{refused-as, written-as, refuses-9, refuses-13, refuses-11-long, refuses-11-short, refuses-none}
 
@@ -177,8 +178,8 @@ reads-back n k es lent row hn hk h e =
     rw s (room-for-all row text h ∙ accepted-exactly text n k es .1 (whole-case hn hk w))
 
 pub writes-back : WritesBack
-writes-back text lent n k es e room =
-    let c = accepted-exactly text n k es .0 e in
+writes-back text row lent n k es e room =
+    let c = read-case row text n k es e in
     let b = calls-back (c .calls) (c .written .ranged) in
     let s : scheduleText n k es ≡ text = rw (c .says, b .1) (sym (c .written .text)) in
     let l = ap length s in

@@ -7,7 +7,7 @@ use mathlib.Core.List.{List, [], _∷_, _++_}
 use lib.ListN.{length, getD, take, drop, replicate}
 use Rattle.store.specs.Schedules.{isNine}
 use Rattle.casetext.specs.Layout.{entry}
-use Rattle.casetext.specs.Reading.{reading, readInto}
+use Rattle.casetext.specs.Reading.{readInto}
 use Rattle.casetext.specs.Reading.Said.{accepted}
 use Rattle.casetext.specs.Written.{scheduleText, written, writtenRow}
 use Rattle.casetext.specs.Answers.{writtenNumber, writtenBytes}
@@ -24,8 +24,8 @@ ReadsBack =
 -- Writing what was read gives the same bytes, wherever there is room for them; the rest stays as it was.
 abbrev pub WritesBack : Type 0
 WritesBack =
-    (text lent : List ℕ) (claimants ceiling : ℕ) (schedule : List ℕ)
-    → reading text ≡ accepted claimants ceiling schedule → length text ≤ length lent
+    (text row lent : List ℕ) (claimants ceiling : ℕ) (schedule : List ℕ)
+    → readInto row text ≡ accepted claimants ceiling schedule → length text ≤ length lent
     → let w = written claimants ceiling schedule lent in
     (writtenNumber w ≡ 0) × (writtenBytes w ≡ length text) × (writtenRow claimants ceiling schedule lent ≡ text ++ drop (length text) lent)
 

@@ -1,7 +1,6 @@
 // Case texts: the reader, which takes any bytes at all, the writer, which takes any schedule, and what `boardcase` prints of a text.
 //
 // The layout is defined by writing (specs/Layout.antt): a line is the text of what it says.
-
 mod lines;
 mod pieces;
 mod reader;

@@ -1,4 +1,5 @@
-// How long the pieces of a case text are, so that a text's length is known before anything of it is written.
+// How long the pieces of a case text are, so that a text's length is known before anything of it is written. Each also says how
+// much it is at most, so that its caller's sum fits.
 ghost use mathlib.Core.Path.{_≡_};
 ghost use Prim.Native.Nat.{_≤_, _<_};
 ghost use mathlib.Core.Bool.{false};
