@@ -1,7 +1,7 @@
 // Runs the situations at the limits of document 01 through the reader and the report: N = 64 and 65, texts of 32,768 and 32,769
 // bytes, 2,048 and 2,049 do lines. Of each it prints the text's length, what the reader gives back, the report's length, and the
 // report's last three lines; the report of a refusal is one line. The texts are built here, so that nothing but the limits differs.
-// Then the writer's limits: a text of 32,768 bytes, one of 32,769, and a row that is a byte too short.
+// Then the writer's limit: a text of 32,768 bytes, and one of 32,769.
 ghost use Prim.Native.Nat.{_≤_};
 ghost use lib.ListN.{length};
 ghost use Rattle.io.specs.Counts.{Counts};
@@ -101,28 +101,21 @@ fn last_line(row: &[u8], bytes: usize) -> usize
     at
 }
 
-fn first_byte(row: &[u8]) -> u8 {
-    if row.len() == 0 {
-        return 0;
-    }
-    row[0]
-}
-
-// How long a report is, and its last three lines, or all where there are no more.
-fn tell_printed(report: &[u8]) {
-    number(b"; report bytes=", report.len() as u64);
+// How long a report or a text is, and its last three lines, or all where there are no more.
+fn tell_end(word: &[u8], bytes: &[u8]) {
+    number(word, bytes.len() as u64);
     say(b" ending\n");
-    let third = last_line(report, report.len());
-    let second = last_line(report, third);
-    let first = last_line(report, second);
-    say(&report[first..]);
+    let third = last_line(bytes, bytes.len());
+    let second = last_line(bytes, third);
+    let first = last_line(bytes, second);
+    say(&bytes[first..]);
 }
 
 fn tell_report(text: &[u8]) {
     let mut out = [0u8; 153609];
     let came = casetext::report(text, &mut out);
     if let Reported::Printed(bytes) = came {
-        tell_printed(&out[..bytes]);
+        tell_end(b"; report bytes=", &out[..bytes]);
     }
 }
 
@@ -195,43 +188,32 @@ fn do_lines() {
     );
 }
 
-// How long a text is, and its last line.
-fn tell_text(text: &[u8]) {
-    number(b" written bytes=", text.len() as u64);
-    say(b" ending\n");
-    let last = last_line(text, text.len());
-    say(&text[last..]);
-}
-
-// A refusal, and the row's first byte, which stays 0 where nothing is written.
-fn tell_refused(refusal: u8, row: &[u8]) {
-    number(b" refused=", refusal as u64);
-    number(b" first byte=", first_byte(row) as u64);
-    say(b"\n");
-}
-
 // What the writer gives back.
 fn tell_written(claimants: u32, schedule: &[u32], out: &mut [u8]) {
     match casetext::write(claimants, 4294967295, schedule, out) {
-        Written::Bytes(bytes) => tell_text(&out[..bytes]),
-        Written::Refused(refusal) => tell_refused(refusal, out),
+        Written::Bytes(bytes) => tell_end(b" written bytes=", &out[..bytes]),
+        Written::Refused(refusal) => number(b" refused=", refusal as u64),
     }
 }
 
-// 2,046 asks of 16 bytes each. The head of 64 claimants has 32 bytes, and that of 100 one more.
-fn text(name: &[u8], claimants: u32, room: usize)
-    requires { ⌜ room ≤ 32769 ⌝ }
-{
+// 2,046 asks of 16 bytes each.
+fn asks(claimants: u32, out: &mut [u8]) {
     let schedule = [17498111u32; 2046];
-    let mut out = [0u8; 32769];
-    say(name);
-    tell_written(claimants, &schedule, &mut out[..room]);
+    tell_written(claimants, &schedule, out);
 }
 
+// There is room for a byte more than the longest text has, so that its length isn't the row's.
+fn written(name: &[u8], claimants: u32) {
+    let mut out = [0u8; 32769];
+    say(name);
+    asks(claimants, &mut out);
+}
+
+// The longest text, and one byte more: the head of 64 claimants has 32 bytes, and that of 100 one more.
 fn texts() {
-    text(b"32768 bytes:", 64, 32769);
-    text(b"32769 bytes:", 100, 32769);
-    text(b"32768 bytes in 32767:", 64, 32767);
+    written(b"32768 bytes:", 64);
+    written(b"32769 bytes:", 100);
+    say(b"\n");
 }
 
 fn main() {

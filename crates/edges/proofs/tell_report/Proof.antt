@@ -18,18 +18,21 @@ report-requires c κs = search needs
 enum-known-came : tie.Need-enum-known-came
 enum-known-came c = c .match .keys1
 
+slice-aggregate-tell-end : tie.Need-slice-aggregate-tell-end
+slice-aggregate-tell-end c = search needs
+
 array-share-prefix-out : tie.Need-array-share-prefix-out
 array-share-prefix-out c =
-    let r = c .before .before .before .before .report in
-    rw (r .kept .1 .0) (printed-within _ _ _ (sym (r .ensures .0) ∙ c .before .came .given .1))
-
-slice-aggregate-tell-printed : tie.Need-slice-aggregate-tell-printed
-slice-aggregate-tell-printed c =
     let r = c .before .before .before .before .before .report in
-    sym (length-take-le _ (r .last .1 .0) (rw (r .kept .1 .0) (printed-within _ _ _ (sym (r .ensures .0) ∙ c .before .before .came .given .1))))
+    rw (r .kept .1 .0) (printed-within _ _ _ (sym (r .ensures .0) ∙ c .before .before .came .given .1))
 
-tell-printed-requires : tie.Need-tell-printed-requires
-tell-printed-requires c κs = search needs
+slice-aggregate-tell-end-2 : tie.Need-slice-aggregate-tell-end-2
+slice-aggregate-tell-end-2 c =
+    let r = c .before .before .before .before .before .before .report in
+    sym (length-take-le _ (r .last .1 .0) (rw (r .kept .1 .0) (printed-within _ _ _ (sym (r .ensures .0) ∙ c .before .before .before .came .given .1))))
+
+tell-end-requires : tie.Need-tell-end-requires
+tell-end-requires c κs = search needs
 
 enum-told : tie.Need-enum-told
 enum-told c = c .match .keys2
@@ -47,9 +50,10 @@ tell-report-spec =
     slice-aggregate-report
     report-requires
     enum-known-came
+    slice-aggregate-tell-end
     array-share-prefix-out
-    slice-aggregate-tell-printed
-    tell-printed-requires
+    slice-aggregate-tell-end-2
+    tell-end-requires
     enum-told
     returns
     returns-2)

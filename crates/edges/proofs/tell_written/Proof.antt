@@ -12,22 +12,31 @@ write-requires c κs = search needs
 enum-known-bytes : tie.Need-enum-known-bytes
 enum-known-bytes c = search needs
 
-slice-reshare-prefix-tell-text : tie.Need-slice-reshare-prefix-tell-text
-slice-reshare-prefix-tell-text c =
-    let r = c .before .before .before .before .before .write in
-    rw (r .kept .1 .1 .1 .0) (written-within _ _ _ _ _ (sym (r .ensures .0) ∙ c .before .bytes .given .1) .1)
+slice-aggregate-tell-end : tie.Need-slice-aggregate-tell-end
+slice-aggregate-tell-end c = search needs
 
-slice-aggregate-tell-text : tie.Need-slice-aggregate-tell-text
-slice-aggregate-tell-text c = sym (length-take-le _ _ (slice-reshare-prefix-tell-text (c .before)))
+slice-reshare-prefix-tell-end : tie.Need-slice-reshare-prefix-tell-end
+slice-reshare-prefix-tell-end c =
+    let r = c .before .before .before .before .before .before .write in
+    rw (r .kept .1 .1 .1 .0) (written-within _ _ _ _ _ (sym (r .ensures .0) ∙ c .before .before .bytes .given .1) .1)
 
-tell-text-requires : tie.Need-tell-text-requires
-tell-text-requires c κs = search needs
+slice-aggregate-tell-end-2 : tie.Need-slice-aggregate-tell-end-2
+slice-aggregate-tell-end-2 c = sym (length-take-le _ _ (slice-reshare-prefix-tell-end (c .before)))
+
+tell-end-requires : tie.Need-tell-end-requires
+tell-end-requires c κs = search needs
 
 enum-known-refusal : tie.Need-enum-known-refusal
 enum-known-refusal c = search needs
 
-tell-refused-requires : tie.Need-tell-refused-requires
-tell-refused-requires c κs = search needs
+slice-aggregate-number : tie.Need-slice-aggregate-number
+slice-aggregate-number c = search needs
+
+cast-number : tie.Need-cast-number
+cast-number c = search needs
+
+number-requires : tie.Need-number-requires
+number-requires c κs = search needs
 
 same-length : tie.Need-same-length
 same-length c = search needs
@@ -47,11 +56,14 @@ tell-written-spec =
     (tie.spec
     write-requires
     enum-known-bytes
-    slice-reshare-prefix-tell-text
-    slice-aggregate-tell-text
-    tell-text-requires
+    slice-aggregate-tell-end
+    slice-reshare-prefix-tell-end
+    slice-aggregate-tell-end-2
+    tell-end-requires
     enum-known-refusal
-    tell-refused-requires
+    slice-aggregate-number
+    cast-number
+    number-requires
     same-length
     returns
     same-length-2
