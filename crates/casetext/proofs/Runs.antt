@@ -1,18 +1,18 @@
 -- The do lines' reports, written one by one.
 -- Assumes nothing.
 use Prim.Native.Nat.{ℕ, _+_, _-_, _*_, _≤_, _<_}
-use native.Mathlib.Numerals.{add-one}
 use native.Mathlib.Omega.{arith}
 use mathlib.Core.Path.{_≡_}
-use mathlib.Core.List.{List, [], _∷_, _++_}
+use mathlib.Core.List.{List, [], _++_}
 use lib.ListN.{length, getD, take, drop, length-drop, drop-of-length-le}
-use lib.Seq.{drop-cons, drop-drop, take-all}
+use lib.Seq.{drop-drop, take-all}
 use Rattle.store.specs.Schedules.{claimantIn}
 use Rattle.casetext.specs.Words.{ascii}
 use Rattle.casetext.specs.Layout.{fieldText, lineText}
 use Rattle.casetext.specs.Writing.{Room}
 use Rattle.casetext.specs.Report.{entryText, entriesText, runText}
 use Rattle.casetext.proofs.Puts.{room-first}
+use Rattle.casetext.proofs.Schedules.{entry-first}
 
 -- The four parts of a do line's report.
 abbrev pub who : (number entry : ℕ) → List ℕ
@@ -36,8 +36,7 @@ pub reports-next : (entries left : List ℕ) (i : ℕ) → i < length entries
 unfolding entriesText
 reports-next entries left i h =
     let e : 5 * i + 5 ≡ 5 * (i + 1) = omega arith in
-    let d : drop i entries ≡ getD entries i 0 ∷ drop (i + 1) entries = rw (add-one i) (drop-cons entries i 0 h) in
-    rw (d, drop-drop 5 (5 * i) left, e)
+    rw (entry-first entries i h, drop-drop 5 (5 * i) left, e)
 
 pub reports-over : (entries left : List ℕ) (i : ℕ) → length entries ≤ i → reports entries left i ≡ []
 unfolding entriesText

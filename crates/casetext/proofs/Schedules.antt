@@ -21,7 +21,8 @@ use Rattle.casetext.proofs.Measures.{do-size}
 abbrev pub lines : List ℕ → List ℕ
 lines es = doTexts (map callOf es)
 
-entry-first : (es : List ℕ) (i : ℕ) → i < length es → drop i es ≡ getD es i 0 ∷ drop (i + 1) es
+-- An entry, and those after it.
+pub entry-first : (es : List ℕ) (i : ℕ) → i < length es → drop i es ≡ getD es i 0 ∷ drop (i + 1) es
 entry-first es i h = rw (add-one i) (drop-cons es i 0 h)
 
 -- Whether refusal 9 names one, from an entry on.

@@ -73,7 +73,7 @@ fn turn_size(call: Call) -> usize
     }
 }
 
-// The do lines of a schedule none of whose entries is barred.
+// The do lines of a schedule none of whose entries is barred; with the largest numbers there are, a line would have 29 bytes.
 pub(crate) fn lines_size(schedule: &[u32]) -> usize
     requires { ⌜ length (now schedule) ≤ 2048 ⌝ }
     requires { ⌜ someNine (now schedule) ≡ false ⌝ }

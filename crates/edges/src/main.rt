@@ -196,7 +196,7 @@ fn tell_written(claimants: u32, schedule: &[u32], out: &mut [u8]) {
     }
 }
 
-// 2,046 asks of 16 bytes each.
+// 2,046 times the entry of `do=ask 10 65535`, a line of 16 bytes.
 fn asks(claimants: u32, out: &mut [u8]) {
     let schedule = [17498111u32; 2046];
     tell_written(claimants, &schedule, out);

@@ -6,7 +6,7 @@ use lib.ListN.{length, length-append}
 use denote.Ref.{now}
 use Rattle.casetext.specs.Layout.{headText}
 use Rattle.casetext.specs.declared.Written.the-variants.{Bytes}
-use Rattle.casetext.proofs.Puts.{room-second, wrote-both}
+use Rattle.casetext.proofs.Puts.{room-first, room-second, wrote-both}
 use Rattle.casetext.proofs.Schedules.{lines}
 use Rattle.casetext.proofs.Refusals.{refused-as, written-as, refuses-9, refuses-13, refuses-11-long, refuses-11-short, refuses-none, wrote-front}
 use Rattle.casetext.proofs.writer.write.Statement.{statement}
@@ -43,7 +43,10 @@ returns-4 c =
     refused-as _ _ _ _ 11 (omega arith) (refuses-11-short _ _ _ _ (sym (c .before .before .before .before .before .before .barred .ensures) ∙ c .before .before .before .before .before .if1 .left) (omega arith) (omega (arith, text)))
 
 put-head-requires : tie.Need-put-head-requires
-put-head-requires c κs = search needs
+put-head-requires c κs =
+    let a = c .before .before .before .before .before .before .before .before .before .before .args in
+    let head = headText (a .claimants) (a .ceiling) in
+    room-first head (lines (now (a .schedule))) (record { fits = omega (arith, length-append head (lines (now (a .schedule)))) })
 
 put-lines-requires : tie.Need-put-lines-requires
 put-lines-requires c κs =
