@@ -1,4 +1,6 @@
 // Reads a case text from standard input and prints what came of it.
+#![tactic(auto)]
+
 use casetext::Reported;
 use libc::{STDIN_FILENO, STDOUT_FILENO};
 

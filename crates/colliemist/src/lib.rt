@@ -1,4 +1,6 @@
 // The library for callers in C and Rust, behind C symbols: a case text is read, written and reported.
+#![tactic(auto)]
+
 ghost use Rattle.std.specs.Prelude.{◌≡◌, ◌≤◌, pos, neg_ℤ};
 ghost use Rattle.casetext.specs.Answers.{reading_line};
 ghost use Rattle.casetext.specs.Reading.{read_into, told, row_after};

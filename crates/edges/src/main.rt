@@ -2,6 +2,8 @@
 // bytes, 2,048 and 2,049 do lines. Of each it prints the text's length, what the reader gives back, the report's length, and the
 // report's last three lines; the report of a refusal is one line. The texts are built here, so that nothing but the limits differs.
 // Then the writer's limit: a text of 32,768 bytes, and one of 32,769.
+#![tactic(auto)]
+
 ghost use Rattle.std.specs.Prelude.{◌≤◌, length};
 ghost use Rattle.io.specs.Counts.{IsPrefixLen};
 

@@ -1,5 +1,6 @@
 // The lock's rules for one claimant: its record goes in and comes back with one call done, beside the one register value
 // that it read. Document 01 names each type and field here.
+#![tactic(auto)]
 
 mod answers;
 mod bools;
@@ -12,7 +13,7 @@ mod turns;
 pub use order::conflict;
 
 // A claimant's record, in the order of a packed row. Session, Choosing and Token are shared; the rest is its own.
-#[derive(Drop)]
+#[derive(Clone, Copy)]
 pub struct Claimant {
     pub place: u8,
     pub choosing: u8,
@@ -24,12 +25,12 @@ pub struct Claimant {
 }
 
 // What all claimants of a table agree on, given with each call.
-#[derive(Drop)]
+#[derive(Clone, Copy)]
 pub struct Terms {
     pub ceiling: u32,
 }
 
-#[derive(Drop)]
+#[derive(Clone, Copy)]
 pub enum Call {
     Ask { who: u32, session: u16 },
     Step { who: u32 },
@@ -37,7 +38,7 @@ pub enum Call {
 }
 
 // The place reached, a turned-away take, or the number of the refusal.
-#[derive(Drop)]
+#[derive(Clone, Copy)]
 pub enum Answer {
     Reached(u8),
     TurnedAway,
@@ -45,14 +46,14 @@ pub enum Answer {
 }
 
 // A record after a call, and the answer. A refused record is as it was.
-#[derive(Drop)]
+#[derive(Clone, Copy)]
 pub struct Turn {
     pub after: Claimant,
     pub answer: Answer,
 }
 
 // The register that a place reads, and of which row.
-#[derive(Drop)]
+#[derive(Clone, Copy)]
 pub enum Register {
     Nothing,
     Choosing(u8),
@@ -61,7 +62,7 @@ pub enum Register {
 }
 
 // What a field may hold: 0, or what 01 sets it to, or either.
-#[derive(Drop)]
+#[derive(Clone, Copy)]
 pub(crate) enum Kind {
     Zero,
     Set,
@@ -69,7 +70,7 @@ pub(crate) enum Kind {
 }
 
 // What each field may hold at one place.
-#[derive(Drop)]
+#[derive(Clone, Copy)]
 pub(crate) struct Row {
     pub session: Kind,
     pub want: Kind,

@@ -1,5 +1,7 @@
 // The table, lent as a row of claimant records: open, call, run and standing. What decides is in functions by value
 // (`entries`, `refusals`, `standings`); each function over the row reads a record, calls those, and writes the record back.
+#![tactic(auto)]
+
 ghost use Rattle.std.specs.Prelude.{◌≡◌, true, length};
 ghost use Rattle.rules.specs.Tables.{record_of, all_well_formed, called};
 ghost use Rattle.store.specs.Entries.{written, caller_of, turn_in};
@@ -15,21 +17,21 @@ mod traces;
 use rules::{Answer, Call, Claimant, Terms, Turn};
 
 // What opening, running and a trial answer.
-#[derive(Drop)]
+#[derive(Clone, Copy)]
 pub enum Outcome {
     Done,
     Refused(u8),
 }
 
 // Negative: the first of the two goes first. 0: neither is in the other's way.
-#[derive(Drop)]
+#[derive(Clone, Copy)]
 pub enum StandingAnswer {
     Is(i64),
     Refused(u8),
 }
 
 // An entry of a schedule: the call that it makes, or the number that refuses it before any rule does. Either names a claimant.
-#[derive(Drop)]
+#[derive(Clone, Copy)]
 pub enum Entry {
     Made(Call),
     Barred { who: u32, refusal: u8 },
