@@ -105,10 +105,10 @@ module _ (n : ℕ) (k : Terms) (i : ℕ) where
       → place_of (after k cs t) i ≡ 0 ↔ m ≤ count (step_of i) k cs t
   unfolding after count
   rests [] t s g e h = rw e (closing_place g).0
-  rests (c ∷ cs) t s g e h =
+  rests {m = m} {p = p} (c ∷ cs) t s g e h =
       let l = next_call c cs t s g e h in
       let x = l.steps (count (step_of i) k cs (called k c t).table) in
-      let y = rests cs (called k c t).table (sound_called c s) l.closing l.place (omega (arith, h)) in
+      let y = rests {m = l.m'} {p = l.p'} cs (called k c t).table (sound_called c s) l.closing l.place (omega (arith, h)) in
       ((λ a. x.1 (y.0 a)), λ a. y.1 (x.0 a))
 
 pub back_to_rest : BackToRest

@@ -32,4 +32,4 @@ sound_called {n} {k} {t} c s =
 pub sound_after : {n : ℕ} {k : Terms} {t : Table} (cs : List Call) → Sound n k t → Sound n k (after k cs t)
 unfolding after
 sound_after [] s = s
-sound_after (c ∷ cs) s = sound_after cs (sound_called c s)
+sound_after {n} {k} {t} (c ∷ cs) s = sound_after {n = n} {k = k} {t = (called k c t).table} cs (sound_called c s)
