@@ -1,14 +1,14 @@
 -- `Claimant::reads` meets its contract: each number that reads is looked up, and no other number reads.
 use mathlib.Core.Path.{◌≡◌, refl, sym}
-use mathlib.Core.Logic.{◌≢◌, inl, inr, ⊎_elim}
+use mathlib.Core.Logic.{◌≢◌, ⊎_elim}
 use Prim.Native.Nat.{ℕ}
+use borrow.Author.Rules.{rules}
 use Rattle.rules.specs.Places.{place_at}
 use Rattle.rules.specs.Rules.{read_at, reads}
 use Rattle.rules.specs.declared.Register.TheVariants.{Nothing}
 use Rattle.rules.proofs.Shapes.{◌&◌}
 use Rattle.rules.proofs.Places.{by_place}
-use Rattle.rules.proofs.Claimant.reads.Statement.{statement}
-use Rattle.rules.proofs.Claimant.reads.Tie as tie
+use Rattle.rules.proofs.Claimant.reads.Goals as goal
 
 -- A number that is none of the five reads nothing.
 abbrev Elsewhere : ℕ → Type 0
@@ -21,22 +21,19 @@ no_other o =
     ((λ h. refl) & (λ h. refl) & (λ h. refl) & (λ h. absurd (h.0 refl)) & (λ h. refl) & (λ h. refl) & (λ h. absurd (h.1 refl)) & (λ h. absurd (h.2 refl)) & (λ h. absurd (h.3 refl)) & (λ h. absurd (h.4 refl)) & (λ h. refl) & (λ h. refl) & (λ h. refl) & tt)
     (λ p h. refl)
 
-returns : tie.Need-returns
+pub returns-in-3 : goal.returns-in-3
 unfolding reads place_at read_at
-returns c = ⊎_elim (λ e. rw e) (λ e. rw e) c.match.keys1
+returns-in-3 c = ⊎_elim (λ e. rw e) (λ e. rw e) c.in-3.is
 
-returns-2 : tie.Need-returns-2
+pub returns-in-6 : goal.returns-in-6
 unfolding reads place_at read_at
-returns-2 c = rw c.match.keys2
+returns-in-6 c = rw c.in-6.is
 
-returns-3 : tie.Need-returns-3
+pub returns-in-7 : goal.returns-in-7
 unfolding reads place_at read_at
-returns-3 c = ⊎_elim (λ e. rw e) (λ e. rw e) c.match.keys3
+returns-in-7 c = ⊎_elim (λ e. rw e) (λ e. rw e) c.in-7.is
 
-returns-4 : tie.Need-returns-4
+pub returns-in_default : goal.returns-in_default
 unfolding reads
-returns-4 c = sym (no_other c.before.args.self.other c.before.args.self.place
-    (let r = c.match.rest in (λ e. r.0.0.1 (inl e), r.0.1, λ e. r.1 (inl e), λ e. r.0.0.1 (inr e), λ e. r.1 (inr e))))
-
-pub reads-spec : {M : Type 1} → statement M
-reads-spec = tie.close (tie.spec returns returns-2 returns-3 returns-4)
+returns-in_default c =
+    sym (no_other c.args.self.other c.args.self.place (search rules, search rules, search rules, search rules, search rules))
