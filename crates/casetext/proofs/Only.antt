@@ -9,7 +9,7 @@ use Rattle.casetext.specs.Written.{written, written_row}
 use Rattle.casetext.specs.contracts.reporting.report as #report
 use Rattle.casetext.specs.contracts.writer.write as #write
 
-pub only_read : Only #read.ended (λ M. #read.clauses)
+pub only_read : Only #read.ended (λ M 𝓤. #read.clauses)
 only_read = record {
   φ = λ κs a r ws.
       (r ≡ told (read_into a.1.0.now a.0.now))
@@ -18,14 +18,14 @@ only_read = record {
   only = λ κs a r r' ws ws' p q. (same p.0 q.0, λ i. (tt, (same p.1 q.1 i, tt)));
 }
 
-pub only_report : Only #report.ended (λ M. #report.clauses)
+pub only_report : Only #report.ended (λ M 𝓤. #report.clauses)
 only_report = record {
   φ = λ κs a r ws. (r ≡ reported a.1.0.now a.0.now) × (ws.1.0 ≡ report_row a.1.0.now a.0.now);
   ensures = λ 𝓛 mem run κs a g r ws. refl;
   only = λ κs a r r' ws ws' p q. (same p.0 q.0, λ i. (tt, (same p.1 q.1 i, tt)));
 }
 
-pub only_write : Only #write.ended (λ M. #write.clauses)
+pub only_write : Only #write.ended (λ M 𝓤. #write.clauses)
 only_write = record {
   φ = λ κs a r ws.
       (r ≡ written a.0 a.1.0 a.1.1.0.now a.1.1.1.0.now)

@@ -11,14 +11,14 @@ use Rattle.colliemist.specs.contracts.colliemist_report as #report
 use Rattle.colliemist.specs.contracts.colliemist_read as #read
 use Rattle.colliemist.specs.contracts.colliemist_write as #write
 
-pub only_colliemist_report : Only #report.ended (λ M. #report.clauses)
+pub only_colliemist_report : Only #report.ended (λ M 𝓤. #report.clauses)
 only_colliemist_report = record {
   φ = λ κs a r ws. (r ≡ counted (reported a.1.0.now a.0.now)) × (ws.1.0 ≡ report_row a.1.0.now a.0.now);
   ensures = λ 𝓛 mem run κs a g r ws. refl;
   only = λ κs a r r' ws ws' p q. (same p.0 q.0, λ i. (tt, (same p.1 q.1 i, tt)));
 }
 
-pub only_colliemist_read : Only #read.ended (λ M. #read.clauses)
+pub only_colliemist_read : Only #read.ended (λ M 𝓤. #read.clauses)
 only_colliemist_read = record {
   φ = λ κs a r ws.
       let said = read_into a.1.0.now a.0.now in
@@ -30,7 +30,7 @@ only_colliemist_read = record {
       (same p.0 q.0, λ i. (tt, (same p.1 q.1 i, (same p.2 q.2 i, (same p.3 q.3 i, (same p.4 q.4 i, tt))))));
 }
 
-pub only_colliemist_write : Only #write.ended (λ M. #write.clauses)
+pub only_colliemist_write : Only #write.ended (λ M 𝓤. #write.clauses)
 only_colliemist_write = record {
   φ = λ κs a r ws.
       (r ≡ bytes_or (written a.0 a.1.0 a.1.1.0.now a.1.1.1.0.now))

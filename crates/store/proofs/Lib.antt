@@ -1,4 +1,4 @@
--- The proofs of the store. First what says nothing of code, then what walks call, then that nothing else meets a contract; each function's own proof stands in its folder.
+-- The proofs of the store. First what says nothing of code, then that nothing else meets a contract; each function's own proof stands in its folder.
 pub mod Numbers
 pub mod Truths
 pub mod Lowest
@@ -11,8 +11,4 @@ pub mod Filling
 pub mod Opening
 pub mod Running
 pub mod Trying
-pub mod Elements
-pub mod Values
-pub mod Looks
-pub mod Enters
 pub mod Only

@@ -35,35 +35,35 @@ pub record Only (T : Ended) (c : Contract T) : Type 2 where
       (r : Res T.signature κs) (ws : Lasts T κs a) → (c M 𝓤 𝓛 mem run κs a).ensures g r (at_exit T κs a ws) ≡ fact 𝓤 (φ κs a r ws)
   pub only : (κs : Lfts T.signature.lifetimes) (a : Args T.signature κs) (r r' : Res T.signature κs) (ws ws' : Lasts T κs a) → φ κs a r ws → φ κs a r' ws' → (r ≡ r') × (ws ≡ ws')
 
-pub only_entry_decoded : Only #decoded.ended (λ M. #decoded.clauses)
+pub only_entry_decoded : Only #decoded.ended (λ M 𝓤. #decoded.clauses)
 only_entry_decoded = record {
   φ = λ κs a r ws. r ≡ decoded a.0;
   ensures = λ 𝓛 mem run κs a g r ws. refl;
   only = λ κs a r r' ws ws' p q. (same p q, refl);
 }
 
-pub only_lowest_broken : Only #lowest-broken.ended (λ M. #lowest-broken.clauses)
+pub only_lowest_broken : Only #lowest-broken.ended (λ M 𝓤. #lowest-broken.clauses)
 only_lowest_broken = record {
   φ = λ κs a r ws. r ≡ lowest_broken a.1.0 a.0.now;
   ensures = λ 𝓛 mem run κs a g r ws. refl;
   only = λ κs a r r' ws ws' p q. (same p q, refl);
 }
 
-pub only_open : Only #open.ended (λ M. #open.clauses)
+pub only_open : Only #open.ended (λ M 𝓤. #open.clauses)
 only_open = record {
   φ = λ κs a r ws. (ws.0 ≡ opening a.1.0 a.0.now) × (r ≡ outcome_of (open_refusal (length a.0.now) a.1.0));
   ensures = λ 𝓛 mem run κs a g r ws. refl;
   only = λ κs a r r' ws ws' p q. (same p.1 q.1, λ i. (same p.0 q.0 i, (tt, tt)));
 }
 
-pub only_call : Only #call.ended (λ M. #call.clauses)
+pub only_call : Only #call.ended (λ M 𝓤. #call.clauses)
 only_call = record {
   φ = λ κs a r ws. (ws.0 ≡ (called a.1.0 a.1.1.0 a.0.now).table) × (r ≡ (called a.1.0 a.1.1.0 a.0.now).answer);
   ensures = λ 𝓛 mem run κs a g r ws. refl;
   only = λ κs a r r' ws ws' p q. (same p.1 q.1, λ i. (same p.0 q.0 i, (tt, (tt, tt))));
 }
 
-pub only_run : Only #run.ended (λ M. #run.clauses)
+pub only_run : Only #run.ended (λ M 𝓤. #run.clauses)
 only_run = record {
   φ = λ κs a r ws.
       (ws.0 ≡ (running a.1.0 a.1.1.0.now a.1.1.1.0.now a.0.now).rows)
@@ -73,14 +73,14 @@ only_run = record {
   only = λ κs a r r' ws ws' p q. (same p.2 q.2, λ i. (same p.0 q.0 i, (tt, (tt, (same p.1 q.1 i, tt)))));
 }
 
-pub only_standing : Only #standing.ended (λ M. #standing.clauses)
+pub only_standing : Only #standing.ended (λ M 𝓤. #standing.clauses)
 only_standing = record {
   φ = λ κs a r ws. r ≡ standing_of a.1.0 a.1.1.0 a.1.1.1.0 a.0.now;
   ensures = λ 𝓛 mem run κs a g r ws. refl;
   only = λ κs a r r' ws ws' p q. (same p q, refl);
 }
 
-pub only_trial : Only #trial.ended (λ M. #trial.clauses)
+pub only_trial : Only #trial.ended (λ M 𝓤. #trial.clauses)
 only_trial = record {
   φ = λ κs a r ws.
       (ws.1.1.1.0 ≡ trial_left a.0 a.1.0 a.1.1.0.now a.1.1.1.0.now)

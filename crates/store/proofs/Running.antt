@@ -44,6 +44,10 @@ module _ {n : ℕ} {k : Terms} (es : List ℕ) (t₀ : Table) where
       table = r.table ∙ rw (e, add-one, drop-cons es i 0);
     }
 
+-- What is still to be answered after i entries that have led to this table.
+abbrev pub to_come : Terms → (es : List ℕ) → (i : ℕ) → Table → List ℕ
+to_come k es i t = map byte_of (answered k (drop i es) t)
+
 -- What the next entry is answered, and what it leaves, come before what the later ones do.
 module _ (k : Terms) (es : List ℕ) (t t' : Table) (i : ℕ) (h : i < length es) (e : t' ≡ (entered k (decoded (get_or es i 0)) t).table) (a : Answer) (ea : a ≡ (entered k (decoded (get_or es i 0)) t).answer) where
   pub answered_step : map byte_of (answered k (drop i es) t) ≡ (byte_of a ∷ []) ++ map byte_of (answered k (drop (i + 1) es) t')

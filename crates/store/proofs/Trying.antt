@@ -5,11 +5,13 @@ use mathlib.Core.List.{List, []}
 use Prim.Native.Nat.{ℕ, zero, suc, ◌≤◌, ◌<◌}
 use native.Mathlib.Omega.{arith}
 use lib.Dec.{ltb}
-use lib.ListN.{length, replicate, length-replicate}
+use lib.ListN.{length, replicate, take, length-replicate}
+use Rattle.std.proofs.lemmas.List.{take-replicate}
 use borrow.Author.Tests.{le-leb, lt-leb, ltb-true, ltb-false}
 use Rattle.rules.specs.Tests.{first}
 use Rattle.rules.specs.Records.{blank}
 use Rattle.rules.specs.Tables.{Table, opened, all_well_formed}
+use Rattle.rules.specs.declared.Claimant.{Claimant}
 use Rattle.rules.specs.declared.Terms.{Terms}
 use Rattle.rules.proofs.Choices.{decide}
 use Rattle.store.specs.Entries.{rows_for}
@@ -44,3 +46,13 @@ module _ (c ceiling : ℕ) (es ls : List ℕ) where
   pub tried : Tried (length (replicate (rows_for c) blank)) (replicate (rows_for c) blank)
   unfolding rows_for trial_left trial_outcome opened
   tried = decide (ltb 64 c) (λ e. rw e (too_many (ltb-true 64 c e))) (λ e. rw (e, length-replicate c blank) (refl, refl))
+
+-- The first rows of an array of blank records are a blank table, which is well-formed.
+pub blank_part : (n : ℕ) (b : Claimant) → b ≡ blank → n ≤ 64 → take n (replicate 64 b) ≡ replicate n blank
+blank_part n b e h = rw e (take-replicate n 64 blank h)
+
+pub part_formed : (n : ℕ) (k : Terms) (b : Claimant) → b ≡ blank → n ≤ 64 → all_well_formed (length (take n (replicate 64 b))) k (take n (replicate 64 b)) ≡ true
+part_formed n k b e h = rw (blank_part n b e h) (blank_table (length (replicate n blank)) k n)
+
+pub part_size : (n : ℕ) (b : Claimant) → n ≤ 64 → n ≡ length (take n (replicate 64 b))
+part_size n b h = rw (take-replicate n 64 b h, length-replicate n b)
