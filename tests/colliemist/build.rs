@@ -1,5 +1,5 @@
 //! Links `libcolliemist.a`: from the folder that COLLIEMIST_LIB_DIR names, or
-//! else from where `rt staticlib colliemist` puts it.
+//! else from where `./archive` puts it.
 
 use std::env;
 use std::path::PathBuf;
@@ -15,7 +15,7 @@ fn main() {
     println!("cargo:rerun-if-changed={}", library.display());
     if !library.exists() {
         panic!(
-            "there is no {}: run `rt staticlib colliemist` first, or name the library's folder in COLLIEMIST_LIB_DIR",
+            "there is no {}: run `./archive` first, or name the library's folder in COLLIEMIST_LIB_DIR",
             library.display()
         );
     }

@@ -1,4 +1,4 @@
--- Nothing else meets the contract of a C symbol.
+-- Nothing else meets the contract of a function that a C symbol calls.
 -- Assumes nothing.
 use mathlib.Core.Path.{◌≡◌, refl}
 use Rattle.store.proofs.Only.{Only, same}

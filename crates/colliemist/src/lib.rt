@@ -1,4 +1,4 @@
-// The library for callers in C and Rust, behind C symbols: a case text is read, written and reported.
+// What a caller in C or Rust gets of a case text, in plain numbers: it is read, written and reported. `colliemist_c` has the C symbols.
 #![tactic(auto)]
 
 ghost use Rattle.std.specs.Prelude.{◌≡◌, ◌≤◌, pos, neg_ℤ};
@@ -27,8 +27,7 @@ fn minus(number: u8) -> i64
 
 // Writes the report of a case text into a lent row and gives its number of bytes, which is at least 1. A row of under 153,609
 // bytes is left as it was, and the answer is 0.
-#[unsafe(no_mangle)]
-pub extern "C" fn colliemist_report(text: &[u8], out: &mut [u8]) -> u64
+pub fn colliemist_report(text: &[u8], out: &mut [u8]) -> u64
     ensures { (result ≡ counted (reported out.old text.now)) × (out.new ≡ report_row out.old text.now) }
 {
     match casetext::report(text, out) {
@@ -40,8 +39,7 @@ pub extern "C" fn colliemist_report(text: &[u8], out: &mut [u8]) -> u64
 // Reads a case text: its entries into the first places of a lent row, and the two numbers; gives how many entries there are. Of a
 // refused text it gives minus the refusal's number and leaves the row and the two numbers as they were. The line is the refusal's,
 // and 0 where there is none.
-#[unsafe(no_mangle)]
-pub extern "C" fn colliemist_read(
+pub fn colliemist_read(
     text: &[u8],
     entries: &mut [u32],
     claimants: &mut u32,
@@ -70,13 +68,7 @@ pub extern "C" fn colliemist_read(
 
 // Writes the case text of a schedule into the first bytes of a lent row and gives how many they are. A refused schedule leaves the
 // row as it was, and the answer is minus the refusal's number.
-#[unsafe(no_mangle)]
-pub extern "C" fn colliemist_write(
-    claimants: u32,
-    ceiling: u32,
-    schedule: &[u32],
-    out: &mut [u8],
-) -> i64
+pub fn colliemist_write(claimants: u32, ceiling: u32, schedule: &[u32], out: &mut [u8]) -> i64
     ensures { (result ≡ bytes_or (written claimants ceiling schedule.now out.old)) × (out.new ≡ written_row claimants ceiling schedule.now out.old) }
 {
     match casetext::write(claimants, ceiling, schedule, out) {
