@@ -7,11 +7,11 @@ use mathlib.Core.Option.{some}
 use mathlib.Core.List.{List, [], ◌∷◌, ◌++◌}
 use lib.ListN.{length, replicate, length-append, length-replicate, replicate-append-replicate}
 use seplogic.Ra.Ura.{Ura}
-use seplogic.Ra.TreeShare.{full_share}
-use mir.Syntax.{Name, Ty, ty_array, named, place, Opd as Operand, Body, seq, call}
+use base.Fraction.{full_share}
+use mir.Syntax.{Callee, Ty, ty_array, named, place, Opd as Operand, Body, seq, call}
 use mir.Val.{Val, WT, has_ty}
 use base.Logic.{ent, sep, emp, ex, via, never_e}
-use base.Fml.{Lft, GName, Fml, fsep, fat, froom, flft, fdead, feq, flent}
+use base.Fml.{Lft, GName, Fml, fsep, fat, froom, flft, fdead, feq, flent, fbor}
 use prog.Wp.{Tables}
 use types.Logic.{Logic, sem}
 use types.Kit.{Item, ‵, raw, ◌⊛◌, given, some as someᴵ, later, pop, Goal, runs, Seq, ◌$◌, ◌∵◌, !, qed, by, move, keep, use1, use2, use3, drop, split, pick, rewrite, fsplit, fjoin, fpick, fpack, feq_l, feq_i, frame, learn, await, updating, now as at_once, show, done}
@@ -35,7 +35,7 @@ use denote.Slice.{Room, finally}
 use denote.Lend.{Held, lends_slice, slice_back}
 use denote.Index.{row, whole_out, whole_in}
 use denote.Steps.{owned}
-use Rattle.walks.proofs.Holds.{Elem, Hold, val, mut, other, owned_of, formula, items, tokens, owned_all}
+use Rattle.walks.proofs.Holds.{Elem, Hold, mut, other, owned_of, formula, items, tokens, owned_all}
 use Rattle.walks.proofs.Calls.{Known, back, called, under}
 use Rattle.walks.proofs.Hand.{Handed, Ends, said_of, Sames, after, kept, Its, regain, cuts, joins, beneath, inserts, doubles}
 use Rattle.walks.proofs.Locals.{Cell, free, has, lent, Local', slot, locals, nth_local, held, upd, set_cell, Within, take_out, put_in, opds_good, opds_value}
@@ -107,7 +107,7 @@ module _ {M : Type 1} {𝓤 : Ura M} (𝓛 : Logic 𝓤) (D : Elem) (b m : ℕ) 
         by ! (whole (zs ++ replicate (m - k) a) (length-append zs (replicate (m - k) a) ∙ omega (arith, same, length-replicate k a, length-replicate (m - k) a, le)))
 
 -- `[a; m]` is a value of its type
-each_is : (D : Elem) (m : ℕ) (a : D.R.Denot) → Is D.R a (D.val a ∷ []) → shadow (each D.R.Denot D.R.own (replicate m a) (replicate m (D.val a)))
+each_is : (D : Elem) (m : ℕ) (a : D.R.Denot) → Is D.R a (D.val a ∷ []) → shadow (each D.R.Denot D.R.own_val (replicate m a) (replicate m (D.val a)))
 each_is D zero a is = tt
 each_is D (suc m) a is = (is, each_is D m a is)
 
@@ -116,7 +116,7 @@ array_fits 𝓛 D m a is = subst (λ (τ : Ty). T (has_ty (ty_array τ m) (array
     (Array-Typed D.R (D.lawful 𝓛).typed m (replicate m a) (array_val (replicate m (D.val a)) ∷ []) (replicate m (D.val a), ((refl, length-replicate m a), each_is D m a is))).0
 
 -- ---- the rule
-module _ {M : Type 1} {𝓤 : Ura M} {𝓛 : Logic 𝓤} {K : Type 0} {𝓣 : Tables 𝓤 𝓛.H} {E : List Local'} {ss : List Cell} {Γ : List Hold} {e : End 𝓤} {f : Name} {xs : List Operand} {d : ℕ} {rest : Body} where
+module _ {M : Type 1} {𝓤 : Ura M} {𝓛 : Logic 𝓤} {K : Type 0} {𝓣 : Tables 𝓤 𝓛.H} {E : List Local'} {ss : List Cell} {Γ : List Hold} {e : End 𝓤} {f : Callee} {xs : List Operand} {d : ℕ} {rest : Body} where
   -- `_d = f(&mut _i[..k], ..)`: local i is an array of m times a, and hs are the other arguments, which are handed over for good
   open 𝓛 use {H}
 
@@ -128,9 +128,9 @@ module _ {M : Type 1} {𝓤 : Ura M} {𝓛 : Logic 𝓤} {K : Type 0} {𝓣 : Ta
       → (on_entry 𝓛 T.signature (y κ' γ₁).0.0 (y κ' γ₁).0.1 (y κ' γ₁).0.3 (y κ' γ₁).0.4
       ≡ sep 𝓤 (tokens 𝓛 (mut κ' full_share D (part 𝓛 D (nth_local E i).1 m κ' k a γ₁) (replicate k a) ∷ hs)) (sem 𝓛 (owned_all (mut κ' full_share D (part 𝓛 D (nth_local E i).1 m κ' k a γ₁) (replicate k a) ∷ hs))))
       × (alive 𝓛 T.signature (y κ' γ₁).0.0 (y κ' γ₁).0.1 ≡ tokens 𝓛 (mut κ' full_share D (part 𝓛 D (nth_local E i).1 m κ' k a γ₁) (replicate k a) ∷ hs))
-      × ((r : Res T.signature (y κ' γ₁).0.0) (v : Val) → (type_at T.signature.result (y κ' γ₁).0.0).own_val r (v ∷ []) ≡ R.R.own (to κ' γ₁ r) (v ∷ []))
+      × ((r : Res T.signature (y κ' γ₁).0.0) (v : Val) → (type_at T.signature.result (y κ' γ₁).0.0).own_val r (v ∷ []) ≡ R.R.own_val (to κ' γ₁ r) (v ∷ []))
       × ((r : Res T.signature (y κ' γ₁).0.0) (ws : Lasts T (y κ' γ₁).0.0 (y κ' γ₁).0.3) → ent 𝓤 ((c (y κ' γ₁).0.0 (y κ' γ₁).0.3).ensures (y κ' γ₁).1 r (at_exit T (y κ' γ₁).0.0 (y κ' γ₁).0.3 ws)) (fact 𝓤 (Φ (to κ' γ₁ r) (last κ' γ₁ ws).0 (last κ' γ₁ ws).1)))
-      × ((ws : Lasts T (y κ' γ₁).0.0 (y κ' γ₁).0.3) → lasts T (y κ' γ₁).0.0 (y κ' γ₁).0.3 ws ≡ fsep (fsep (finally D.R γ₁ (last κ' γ₁ ws).0) (feq ℕ (length (last κ' γ₁ ws).0) (length (replicate k a)))) (said_of hs (last κ' γ₁ ws).1))
+      × ((ws : Lasts T (y κ' γ₁).0.0 (y κ' γ₁).0.3) → lasts T (y κ' γ₁).0.0 (y κ' γ₁).0.3 ws ≡ fsep (fsep (fsep (finally D.R γ₁ (last κ' γ₁ ws).0) (feq ℕ (length (last κ' γ₁ ws).0) (length (replicate k a)))) (fbor κ' (Held D.R (length (replicate k a)) (nth_local E i).1 zero γ₁))) (said_of hs (last κ' γ₁ ws).1))
       × ent 𝓤 (emp 𝓤) ((c (y κ' γ₁).0.0 (y κ' γ₁).0.3).requires (y κ' γ₁).1) × (opds_value E (set_cell ss i lent) xs ≡ passed 𝓛 T.signature (y κ' γ₁).0))
       → k ≤ m → Room D.R (length (replicate k a)) → Is D.R a (D.val a ∷ []) → opds_good E (set_cell ss i lent) xs × (type_of E (set_cell ss i lent) d ≡ some R.τ)
       → ((r : R.R.Denot) (zs : List D.R.Denot) (ws : Ends hs) → Φ r zs ws → Sames hs ws → Is R.R r (R.val r ∷ []) → Run K 𝓛 𝓣 E (set_cell (upd (set_cell ss i lent) d (R.val r)) i free) (after hs ws ++ Γ₀) rest e)
@@ -166,7 +166,7 @@ module _ {M : Type 1} {𝓤 : Ura M} {𝓛 : Logic 𝓤} {K : Type 0} {𝓣 : Ta
         (beneath 𝓛 (‵ Q) (‵ (flft κ' full_share) ∷ items (back hs ++ (other P ∷ X))) (‵ (flft κ' full_share) ∷ raw (Its 𝓛 (back hs)) ∷ items (other P ∷ X))
         (beneath 𝓛 (‵ (flft κ' full_share)) (items (back hs ++ (other P ∷ X))) (raw (Its 𝓛 (back hs)) ∷ items (other P ∷ X)) (cuts 𝓛 (back hs) (other P ∷ X)))))
         (let s₂ : Seq K 𝓛 (L₂ ∷ ‵ Q ∷ ‵ (flft κ' full_share) ∷ raw (Its 𝓛 (back hs)) ∷ ‵ P ∷ ‵ (kept hs) ∷ items Γ₀) G' =
-        move t (1 ∷ []) $ rewrite t 0 (λ (F : Fml). ‵ F) ((contract κ' γ₁).4 ws) refl $ fsplit t $ fsplit t $ move t (1 ∷ []) $ feq_l t (λ len.
+        move t (1 ∷ []) $ rewrite t 0 (λ (F : Fml). ‵ F) ((contract κ' γ₁).4 ws) refl $ fsplit t $ fsplit t $ fsplit t $ move t (2 ∷ []) $ drop t $ move t (1 ∷ []) $ feq_l t (λ len.
         -- [the last list of the part; what is said of the others; the locals; the token; the tokens; what the lender keeps; the copies; ..]
         move t (3 ∷ []) $ lft_end t tt $ move t (0 ∷ 5 ∷ 1 ∷ []) $ use3 𝓛 (later (‵ (froom (ty_array D.τ m) b zero))) (part_back 𝓛 D b m κ' k a γ₁ zs le len) $ await t tt $
         rewrite t 0 (λ (τ : Ty). ‵ (froom τ b zero)) (sym this.4) refl $ move t (0 ∷ 2 ∷ []) $ use2 𝓛 L₃ (put_in 𝓛 E (upd ss₁ d v) i free this.2) $ move t (2 ∷ 1 ∷ 3 ∷ []) $

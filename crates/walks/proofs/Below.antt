@@ -1,5 +1,5 @@
 -- The tests `i < n` of code, each as one rule of the judgement of Walk.antt, for the statements that it is: the count is read, the two are compared, and the code branches.
---     whiles-below     `while _i < n`, at the head of a turn.        ifs-below        `if _i < n { .. }`
+--     whiles_below     `while _i < n`, at the head of a turn.        ifs_below        `if _i < n { .. }`
 -- Each takes a tuple that says what the MIR is about, `(refl, tt, tt)`, and that n fits.
 -- Assumes `Logic`.
 use mathlib.Core.Path.{◌≡◌, ap}

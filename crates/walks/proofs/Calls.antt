@@ -9,7 +9,7 @@ use Prim.Native.Nat.{ℕ}
 use mathlib.Core.Option.{some}
 use mathlib.Core.List.{List, [], ◌∷◌, ◌++◌}
 use seplogic.Ra.Ura.{Ura}
-use mir.Syntax.{Name, place, Opd as Operand, Body, seq, call}
+use mir.Syntax.{Callee, place, Opd as Operand, Body, seq, call}
 use mir.Val.{Val}
 use base.Logic.{SProp, ent, sep, emp, id⊢, via, mono_l, mono_r, emp∗, snd∗}
 use base.Fml.{Fml, flft}
@@ -67,7 +67,7 @@ module _ {M : Type 1} {𝓤 : Ura M} (𝓛 : Logic 𝓤) where
       (via 𝓤 _ (mono_l 𝓤 (⋆ 𝓛 (items Γ)) (tokens_back hs)) (++⊢ 𝓛 (items (back hs)) (items Γ)))
 
   -- the callee meets its contract
-  abbrev pub Known : Tables 𝓤 H → Name → (T : Ended) → Clauses 𝓤 T → Type 1
+  abbrev pub Known : Tables 𝓤 H → Callee → (T : Ended) → Clauses 𝓤 T → Type 1
   Known 𝓣 f T c = Triple 𝓤 (𝓣.C f) (triple_of 𝓛 T.signature (closing 𝓛 T c))
 
 module _ {M : Type 1} {𝓤 : Ura M} {𝓛 : Logic 𝓤} {K : Type 0} {𝓣 : Tables 𝓤 𝓛.H} {E : List Local'} {ss : List Cell} {e : End 𝓤} where
@@ -75,7 +75,7 @@ module _ {M : Type 1} {𝓤 : Ura M} {𝓛 : Logic 𝓤} {K : Type 0} {𝓣 : Ta
   pub makes : K → (D : Elem) (a : D.R.Denot) {Γ : List Hold} {b : Body} → Is D.R a (D.val a ∷ []) → Rule K 𝓛 𝓣 E ss (val D a ∷ Γ) b e ss Γ b e
   makes t D a is = record { go = λ r. record { prf = owned t D.R (Is D.R) (D.made 𝓛) a (D.val a ∷ []) is $ move t (1 ∷ 0 ∷ []) $ r.prf } }
 
-module _ {M : Type 1} {𝓤 : Ura M} (𝓛 : Logic 𝓤) (K : Type 0) (t : K) (𝓣 : Tables 𝓤 𝓛.H) (E : List Local') (ss : List Cell) (Q : Post 𝓤 𝓛.H) (f : Name) (xs : List Operand) (d : ℕ) (rest : Body)
+module _ {M : Type 1} {𝓤 : Ura M} (𝓛 : Logic 𝓤) (K : Type 0) (t : K) (𝓣 : Tables 𝓤 𝓛.H) (E : List Local') (ss : List Cell) (Q : Post 𝓤 𝓛.H) (f : Callee) (xs : List Operand) (d : ℕ) (rest : Body)
     (hs Γ : List Hold) (T : Ended) (c : Clauses 𝓤 T) (known : Known 𝓛 𝓣 f T c) (y : (triple_of 𝓛 T.signature (closing 𝓛 T c)).Ghost) (D : Elem) (to : Res T.signature y.0.0 → D.R.Denot)
     (Φ : Res T.signature y.0.0 → Lasts T y.0.0 y.0.3 → Type 0) where
   open 𝓛 use {H}
@@ -101,7 +101,7 @@ module _ {M : Type 1} {𝓤 : Ura M} (𝓛 : Logic 𝓤) (K : Type 0) (t : K) (�
 
   pub called : opds_good E ss xs → opds_value E ss xs ≡ passed 𝓛 T.signature y.0 → on_entry 𝓛 T.signature y.0.0 y.0.1 y.0.3 y.0.4 ≡ sep 𝓤 (tokens 𝓛 hs) (sem 𝓛 (owned_all hs))
       → alive 𝓛 T.signature y.0.0 y.0.1 ≡ tokens 𝓛 hs → ent 𝓤 (emp 𝓤) ((c y.0.0 y.0.3).requires y.1)
-      → ((r : Res T.signature y.0.0) (v : Val) → (type_at T.signature.result y.0.0).own_val r (v ∷ []) ≡ D.R.own (to r) (v ∷ [])) → ((r : Res T.signature y.0.0) (ws : Lasts T y.0.0 y.0.3) → ent 𝓤 (Ens r ws) (fact 𝓤 (Φ r ws)))
+      → ((r : Res T.signature y.0.0) (v : Val) → (type_at T.signature.result y.0.0).own_val r (v ∷ []) ≡ D.R.own_val (to r) (v ∷ [])) → ((r : Res T.signature y.0.0) (ws : Lasts T y.0.0 y.0.3) → ent 𝓤 (Ens r ws) (fact 𝓤 (Φ r ws)))
       → type_of E ss d ≡ some D.τ
       → ((r : Res T.signature y.0.0) (ws : Lasts T y.0.0 y.0.3) → Φ r ws → Is D.R (to r) (D.val (to r) ∷ []) → Seq K 𝓛 (‵ (locals E (upd ss d (D.val (to r)))) ∷ items (other (lasts T y.0.0 y.0.3 ws) ∷ (back hs ++ Γ))) (runs 𝓣.C 𝓣.Λ E rest Q))
       → Seq K 𝓛 (L ∷ items (hs ++ Γ)) (runs 𝓣.C 𝓣.Λ E (seq (call f xs (place d [])) rest) Q)
@@ -154,13 +154,13 @@ module _ {M : Type 1} {𝓤 : Ura M} (𝓛 : Logic 𝓤) where
   pub under : (L : Item 𝓤) (Γ Γ' : List Hold) → ent 𝓤 (⋆ 𝓛 (items Γ)) (⋆ 𝓛 (items Γ')) → ent 𝓤 (⋆ 𝓛 (L ∷ items Γ)) (⋆ 𝓛 (L ∷ items Γ'))
   under L Γ Γ' h = via 𝓤 _ (pop 𝓛 L (items Γ)) (via 𝓤 _ (mono_r 𝓤 (mean 𝓛 L) h) (push 𝓛 L (items Γ')))
 
-module _ {M : Type 1} {𝓤 : Ura M} {𝓛 : Logic 𝓤} {K : Type 0} {𝓣 : Tables 𝓤 𝓛.H} {E : List Local'} {ss : List Cell} {Γ : List Hold} {e : End 𝓤} {f : Name} {xs : List Operand} {d : ℕ} {rest : Body} where
+module _ {M : Type 1} {𝓤 : Ura M} {𝓛 : Logic 𝓤} {K : Type 0} {𝓣 : Tables 𝓤 𝓛.H} {E : List Local'} {ss : List Cell} {Γ : List Hold} {e : End 𝓤} {f : Callee} {xs : List Operand} {d : ℕ} {rest : Body} where
   -- a call of a function by value, whose contract says that the result is r: it takes nothing of what is held, and the result is stored
   open 𝓛 use {H}
 
   pub calls : K → (hs : List Hold) (T : Ended) (c : Clauses 𝓤 T) (known : Known 𝓛 𝓣 f T c) (y : (triple_of 𝓛 T.signature (closing 𝓛 T c)).Ghost) (D : Elem) (r : D.R.Denot) (to : Res T.signature y.0.0 → D.R.Denot)
       → (on_entry 𝓛 T.signature y.0.0 y.0.1 y.0.3 y.0.4 ≡ sep 𝓤 (tokens 𝓛 hs) (sem 𝓛 (owned_all hs))) × (alive 𝓛 T.signature y.0.0 y.0.1 ≡ tokens 𝓛 hs)
-      × ((r' : Res T.signature y.0.0) (v : Val) → (type_at T.signature.result y.0.0).own_val r' (v ∷ []) ≡ D.R.own (to r') (v ∷ []))
+      × ((r' : Res T.signature y.0.0) (v : Val) → (type_at T.signature.result y.0.0).own_val r' (v ∷ []) ≡ D.R.own_val (to r') (v ∷ []))
       × ((r' : Res T.signature y.0.0) (ws : Lasts T y.0.0 y.0.3) → ent 𝓤 ((c y.0.0 y.0.3).ensures y.1 r' (at_exit T y.0.0 y.0.3 ws)) (fact 𝓤 (to r' ≡ r)))
       → ent 𝓤 (emp 𝓤) ((c y.0.0 y.0.3).requires y.1) → Plains hs → opds_good E ss xs × (opds_value E ss xs ≡ passed 𝓛 T.signature y.0) × (type_of E ss d ≡ some D.τ)
       → (Is D.R r (D.val r ∷ []) → Run K 𝓛 𝓣 E (upd ss d (D.val r)) Γ rest e) → Run K 𝓛 𝓣 E ss Γ (seq (call f xs (place d [])) rest) e

@@ -1,6 +1,6 @@
 -- From a walk to a function's statement: what is the same for every function.
 --     Site             what a walk takes for granted: the model, the tables, and what a contract reads
---     Kind             of a parameter, what `walked` and `walk_Meets` ask of it.        by_value, shared, mutable, given-up      the kinds
+--     Kind             of a parameter, what `walked` and `walk_Meets` ask of it.        by_value, shared, mutable, given_up      the kinds
 --     Function, Walk   a function at one choice of what its contract binds outside, and what a walk of its body shows
 --     walks            a function's body, from what there is at entry.        returns      its exit
 --     closes           the statement
@@ -9,15 +9,14 @@ use mathlib.Core.Path.{◌≡◌, subst, sym}
 use Prim.Native.Nat.{ℕ}
 use mathlib.Core.List.{List, [], ◌∷◌}
 use seplogic.Ra.Ura.{Ura}
-use mir.Syntax.{Fn, Name, return}
+use mir.Syntax.{Callee, Fn, return}
 use mir.Val.{Val}
 use base.Logic.{SProp, ent, sep, emp, via, fst∗}
 use prog.Memory.{Memory}
 use prog.Model.{Model}
-use prog.Routine.{Routine, Env}
+use prog.Routine.{Routine}
 use prog.Wp.{WpFn, Closed, Tables}
-use ghost.Atoms.{meaning}
-use types.Logic.{Logic}
+use types.Logic.{Logic, sem}
 use contract.Monad.{Fun, fact}
 use contract.Lifetimes.{Lfts, Shares, AllOutlive}
 use contract.Running.{Running, tables, tables_of}
@@ -128,58 +127,56 @@ pub record Function {M : Type 1} (S : Site M) : Type 2 where
   pub T : Ended
   pub ps : Params T
   pub c : Clauses S.𝓤 T
-  pub y : (walk_of S T (stayed T ps) c).Ghost
+  pub y : (walk_of S.𝓛 T (stayed T ps) c).Ghost
 
 module _ {M : Type 1} (S : Site M) where
   abbrev pub Post : Function S → Val → SProp S.𝓤
-  Post F = (walk_of S F.T (stayed F.T F.ps) F.c).post F.y
+  Post F = (walk_of S.𝓛 F.T (stayed F.T F.ps) F.c).post F.y
 
   -- what a walk shows: from the arguments vs, and what is held of them, the body runs to the function's contract at y
   abbrev pub Walk : Function S → Fn → List Val → List Hold → Type 1
-  Walk F f vs Γ = (bs : Blocks f.locals) → Run (Go {0}) S.W S.𝓣 (env_of f.locals bs) (free ∷ holding vs) Γ f.body (fn (Post F))
+  Walk F f vs Γ = (bs : Blocks f.locals) → Run (Go {0}) S.𝓛 S.𝓣 (env_of f.locals bs) (free ∷ holding vs) Γ f.body (fn (Post F))
 
   pub walks : (Γ : List Hold) (f : Fn) (vs : List Val) (Kf : Val → SProp S.𝓤) → Starts₀ f.locals vs
-      → ((bs : Blocks f.locals) → Run (Go {0}) S.W S.𝓣 (env_of f.locals bs) (free ∷ holding vs) Γ f.body (fn Kf))
-      → ent S.𝓤 (sep S.𝓤 (tokens S Γ) (meaning S (owned_all Γ))) (WpFn S.𝓤 S.𝓛.H S.𝓣.C S.𝓣.Λ f vs Kf)
-  walks Γ f vs Kf wt k = via S.𝓤 (⋆ S (items Γ)) (enters S.W Γ) (begins ! f vs Kf wt k).prf
+      → ((bs : Blocks f.locals) → Run (Go {0}) S.𝓛 S.𝓣 (env_of f.locals bs) (free ∷ holding vs) Γ f.body (fn Kf))
+      → ent S.𝓤 (sep S.𝓤 (tokens S.𝓛 Γ) (sem S.𝓛 (owned_all Γ))) (WpFn S.𝓤 S.𝓛.H S.𝓣.C S.𝓣.Λ f vs Kf)
+  walks Γ f vs Kf wt k = via S.𝓤 (⋆ S.𝓛 (items Γ)) (enters S.𝓛 Γ) (begins ! f vs Kf wt k).prf
 
 -- `return`, where the `ensures` is a fact φ: it is shown, and what the types own at exit is what is held. r is the result, ws the last values. The tuple says what the MIR and the contract are about: `(tt, tt, refl, refl, refl, refl)`
 pub returns : {M : Type 1} {K : Type 0} {S : Site M} {E : List Local'} {ss : List Cell} {Γ : List Hold} {e : End S.𝓤}
     → K → (F : Function S) (D : Elem) (r : D.R.Denot) (r' : Res F.T.signature F.y.0.0) (ws : Lasts F.T F.y.0.0 F.y.0.3) (φ : Type 0)
     → local_good E ss 0 [] × Here ss × (held ss 0 ≡ has (D.val r)) × (result e ≡ Post S F) × ((F.c F.y.0.0 F.y.0.3).ensures F.y.1 r' (at_exit F.T F.y.0.0 F.y.0.3 ws) ≡ fact S.𝓤 φ)
-    × (sep S.𝓤 (tokens S Γ) (sep S.𝓤 (meaning S (owned_all Γ)) (meaning S (D.R.own r (D.val r ∷ []))))
-    ≡ on_exit S F.T (stayed F.T F.ps) F.y.0.0 F.y.0.1 F.y.0.4 (D.val r) r' F.y.0.3 ws)
-    → Is D.R r (D.val r ∷ []) → Fit F.T (stayed F.T F.ps) F.y.0.0 F.y.0.3 ws → φ → Run K S.W S.𝓣 E ss Γ return e
+    × (sep S.𝓤 (tokens S.𝓛 Γ) (sep S.𝓤 (sem S.𝓛 (owned_all Γ)) (sem S.𝓛 (D.R.own_val r (D.val r ∷ []))))
+    ≡ on_exit S.𝓛 F.T (stayed F.T F.ps) F.y.0.0 F.y.0.1 F.y.0.4 (D.val r) r' F.y.0.3 ws)
+    → Is D.R r (D.val r ∷ []) → Fit F.T (stayed F.T F.ps) F.y.0.0 F.y.0.3 ws → φ → Run K S.𝓛 S.𝓣 E ss Γ return e
 returns {M} {K} {S} {E} {ss} {Γ} {e} t F D r r' ws φ g is fits said =
     let 𝓤 = S.𝓤 in
-    let H = S.𝓛.H in
-    let A = S.A in
-    let Out : SProp 𝓤 = on_exit S F.T (stayed F.T F.ps) F.y.0.0 F.y.0.1 F.y.0.4 (D.val r) r' F.y.0.3 ws in
-    ends t g.0 g.1 (subst (λ (Kf : Val → SProp 𝓤). Seq K S.W (items Γ) (prop (Kf (got (held ss 0))))) (sym g.3) (subst (λ (s : Cell). Seq K S.W (items Γ) (prop (Post S F (got s)))) (sym g.2)
-    (suffices t _ (ends_at S F.T (stayed F.T F.ps) F.c S.W F.y (D.val r) r' ws fits) $ by t (subst (λ (P : SProp 𝓤). ent 𝓤 (⋆ S (items Γ)) (sep 𝓤 Out P)) (sym g.4)
-    (let s : Seq K S.W (items Γ) (prop (sep 𝓤 Out (fact 𝓤 φ))) = says t said $ by t (subst (λ (P : SProp 𝓤). ent 𝓤 (⋆ S (items Γ)) P) g.5 (leaves S.W Γ D r is)) in s.prf)))))
+    let Out : SProp 𝓤 = on_exit S.𝓛 F.T (stayed F.T F.ps) F.y.0.0 F.y.0.1 F.y.0.4 (D.val r) r' F.y.0.3 ws in
+    ends t g.0 g.1 (subst (λ (Kf : Val → SProp 𝓤). Seq K S.𝓛 (items Γ) (prop (Kf (got (held ss 0))))) (sym g.3) (subst (λ (s : Cell). Seq K S.𝓛 (items Γ) (prop (Post S F (got s)))) (sym g.2)
+    (suffices t _ (ends_at S.𝓛 F.T (stayed F.T F.ps) F.c F.y (D.val r) r' ws fits) $ by t (subst (λ (P : SProp 𝓤). ent 𝓤 (⋆ S.𝓛 (items Γ)) (sep 𝓤 Out P)) (sym g.4)
+    (let s : Seq K S.𝓛 (items Γ) (prop (sep 𝓤 Out (fact 𝓤 φ))) = says t said $ by t (subst (λ (P : SProp 𝓤). ent 𝓤 (⋆ S.𝓛 (items Γ)) P) g.5 (leaves S.𝓛 Γ D r is)) in s.prf)))))
 
 -- ---- the statement
-module _ {M : Type 1} {𝓤 : Ura M} (𝓛 : Logic 𝓤) (𝓜 : Model 𝓤 𝓛.H) (𝓡 : Running 𝓤 𝓛.H 𝓜) (env : Env) where
+module _ {M : Type 1} {𝓤 : Ura M} (𝓛 : Logic 𝓤) (𝓜 : Model 𝓤 𝓛.H) (𝓡 : Running 𝓤 𝓛.H 𝓜) where
   open 𝓛 use {H}
 
   abbrev pub site : Site M
-  site = record { 𝓤 = 𝓤; H = H; A = 𝓛.A; W = 𝓛; 𝓣 = tables_of 𝓤 H 𝓜 (tables 𝓤 H 𝓜 𝓡 env); mem = 𝓜.mem; run = 𝓡.run }
+  site = record { 𝓤 = 𝓤; 𝓛 = 𝓛; 𝓣 = tables_of 𝓤 H 𝓜 (tables 𝓤 H 𝓜 𝓡 𝓡.env); mem = 𝓜.mem; run = 𝓡.returns }
 
-  pub closes : (T : Ended) (ps : Params T) (c : Clauses 𝓤 T) (key : Name) (f : Fn) → Closed 𝓤 H (tables 𝓤 H 𝓜 𝓡 env).C (tables 𝓤 H 𝓜 𝓡 env).Λ key f
+  pub closes : (T : Ended) (ps : Params T) (c : Clauses 𝓤 T) (key : Callee) (f : Fn) → Closed 𝓤 H (tables 𝓤 H 𝓜 𝓡 𝓡.env).C (tables 𝓤 H 𝓜 𝓡 𝓡.env).Λ key f
       → ((κs : Lfts T.signature.lifetimes) (qs : Shares T.signature.lifetimes) (bounds : AllOutlive T.signature.lifetimes T.signature.outlives κs) (a : Args T.signature κs) (g : (c κs a).ghost)
       → Are (types_at T.signature.params κs) (Ises (types_at T.signature.params κs)) a (valss (types_at T.signature.params κs) (spells T.signature.params T.kept ps κs) a)
       → Typed (mirs (types_at T.signature.params κs)) (flat (types_at T.signature.params κs) (valss (types_at T.signature.params κs) (spells T.signature.params T.kept ps κs) a))
       → ent 𝓤 (sep 𝓤 (on_entry 𝓛 T.signature κs qs a (valss (types_at T.signature.params κs) (spells T.signature.params T.kept ps κs) a)) ((c κs a).requires g))
       (WpFn 𝓤 H site.𝓣.C site.𝓣.Λ f (flat (types_at T.signature.params κs) (valss (types_at T.signature.params κs) (spells T.signature.params T.kept ps κs) a))
       ((walk_of 𝓛 T (stayed T ps) c).post ((κs, qs, bounds, a, valss (types_at T.signature.params κs) (spells T.signature.params T.kept ps κs) a), g))))
-      → Triple 𝓤 ((tables 𝓤 H 𝓜 𝓡 env).C key) (triple_of 𝓛 T.signature (closing 𝓛 T c))
+      → Triple 𝓤 ((tables 𝓤 H 𝓜 𝓡 𝓡.env).C key) (triple_of 𝓛 T.signature (closing 𝓛 T c))
   unfolding tables_of
   closes T ps c key f closed walk =
-      entered 𝓤 H (triple_of 𝓛 T.signature (closing 𝓛 T c)) (tables 𝓤 H 𝓜 𝓡 env).C (tables 𝓤 H 𝓜 𝓡 env).Λ key f closed
-      (walk_Meets 𝓛 T (stayed T ps) site.W (go site.W T.signature.params T.kept ps) c (WpFn 𝓤 H site.𝓣.C site.𝓣.Λ f) (WpFn-mono 𝓤 H site.W.laws site.𝓣 f)
+      entered 𝓤 H (triple_of 𝓛 T.signature (closing 𝓛 T c)) (tables 𝓤 H 𝓜 𝓡 𝓡.env).C (tables 𝓤 H 𝓜 𝓡 𝓡.env).Λ key f closed
+      (walk_Meets 𝓛 T (stayed T ps) (go 𝓛 T.signature.params T.kept ps) c (WpFn 𝓤 H site.𝓣.C site.𝓣.Λ f) (WpFn-mono 𝓤 H 𝓛.laws site.𝓣 f)
       (walked 𝓛 T (stayed T ps) c (WpFn 𝓤 H site.𝓣.C site.𝓣.Λ f) (spells T.signature.params T.kept ps) (tell T.signature.params T.kept ps)
-      (λ κs qs bounds a g are. walk κs qs bounds a g are (all_Typed 𝓛 (types_at T.signature.params κs) (laws site.W T.signature.params T.kept ps κs) a _ are))))
+      (λ κs qs bounds a g are. walk κs qs bounds a g are (all_Typed 𝓛 (types_at T.signature.params κs) (laws 𝓛 T.signature.params T.kept ps κs) a _ are))))
 
 -- a contract with no `requires`
 pub always : {M : Type 1} (𝓤 : Ura M) {P Q : SProp 𝓤} → ent 𝓤 P Q → ent 𝓤 (sep 𝓤 P (emp 𝓤)) Q

@@ -1,5 +1,5 @@
 -- A `&mut [D]` that is lent to a callee for one call, and comes back: a rule of the judgement of Walk.antt.
---     calls-mut        a call of a function whose first parameter is a `&mut [D]` and whose others are plain. What it does to the list, and its result, are what its contract says
+--     calls_mut        a call of a function whose first parameter is a `&mut [D]` and whose others are plain. What it does to the list, and its result, are what its contract says
 -- The slice is lent again for a lifetime that is made for the call (`Denote/Lend.antt`'s `lends_again` and `comes_back`, of a slice). Nobody sees that lifetime but the callee.
 -- Assumes `Logic`.
 use mathlib.Core.Path.{◌≡◌, refl, sym, ◌∙◌, ap, subst}
@@ -8,11 +8,11 @@ use mathlib.Core.Option.{some}
 use mathlib.Core.List.{List, [], ◌∷◌, ◌++◌}
 use lib.ListN.{length}
 use seplogic.Ra.Ura.{Ura}
-use seplogic.Ra.TreeShare.{full_share}
-use mir.Syntax.{Name, named, place, Opd as Operand, Body, seq, call}
+use base.Fraction.{full_share}
+use mir.Syntax.{Callee, named, place, Opd as Operand, Body, seq, call}
 use mir.Val.{Val}
 use base.Logic.{ent, sep, emp, ex, via, snd∗}
-use base.Fml.{Lft, GName, Share, Fml, fsep, flft, fdead, feq, fobs, fauth, flent, fobor}
+use base.Fml.{Lft, GName, Share, Fml, fsep, flft, fdead, feq, fobs, fauth, flent, fbor, fobor}
 use prog.Wp.{Tables}
 use types.Logic.{Logic, sem}
 use contract.Monad.{fact}
@@ -71,10 +71,10 @@ module _ (D : Elem) (κ κ' : Lft) (q : Share) (x : MutBor (List D.R.Denot)) (ys
     open 𝓛 use {H, A}
 
     abbrev b : ℕ
-    b = x.ptr.0
+    b = x.ref_ptr.0
 
     abbrev o : ℕ
-    o = x.ptr.1
+    o = x.ref_ptr.1
 
     lends : ent 𝓤 (sep 𝓤 (sem 𝓛 (owned_of (mut κ q D x ys))) (A.lft κ q)) (H.⇛ (ex 𝓤 (λ (γ₁ : GName). sep 𝓤 (sem 𝓛 (owned_of (mut κ' full_share D (renamed x γ₁) ys))) (sem 𝓛 (LentAgain γ₁)))))
     lends =
@@ -91,7 +91,7 @@ module _ (D : Elem) (κ κ' : Lft) (q : Share) (x : MutBor (List D.R.Denot)) (ys
         qed 𝓛 (‵ (fdead κ') ∷ ‵ (LentAgain γ₁) ∷ ‵ (finally D.R γ₁ zs) ∷ []) ∵ updating ! $ move ! (1 ∷ []) $ fsplit ! $ move ! (2 ∷ 0 ∷ 3 ∷ []) $
         use3 𝓛 (later (‵ ((Arr (mem D.R) (length ys)).own_at zs b o))) (slice_back 𝓛 D.R κ' γ₁ zs (length ys) b o) $ await ! tt $ fsplit ! $ drop ! $ use1 𝓛 (‵ (row D.R full_share zs b o)) (whole_out 𝓛 D.R zs b o) $
         move ! (1 ∷ []) $ fsplit ! $ move ! (1 ∷ []) $ fsplit ! $ move ! (3 ∷ 2 ∷ 0 ∷ 1 ∷ []) $ closes_slice ! tt D.R ys zs e b o $ at_once ! $
-        fjoin ! $ pure_i ! (mut_slice_at D.R (at_last x zs) (mut_slice_vals x)) (tt, (tt, tt)) (ap (λ (m : ℕ). slice_val x.ptr m ∷ []) (sym (e ∙ facts.0)), subst (Room D.R) (sym e) facts.1) $ fjoin ! $ done !
+        fjoin ! $ pure_i ! (mut_slice_at D.R (at_last x zs) (mut_slice_vals x)) (tt, (tt, tt)) (ap (λ (m : ℕ). slice_val x.ref_ptr m ∷ []) (sym (e ∙ facts.0)), subst (Room D.R) (sym e) facts.1) $ fjoin ! $ done !
 
 -- ---- the rule
 module _ {M : Type 1} {𝓤 : Ura M} (𝓛 : Logic 𝓤) where
@@ -99,7 +99,7 @@ module _ {M : Type 1} {𝓤 : Ura M} (𝓛 : Logic 𝓤) where
   pub only : (hs Γ : List Hold) → ent 𝓤 (⋆ 𝓛 (items (hs ++ Γ))) (⋆ 𝓛 (items Γ))
   only hs Γ = subst (λ (Δ : List (Item 𝓤)). ent 𝓤 (⋆ 𝓛 Δ) (⋆ 𝓛 (items Γ))) (sym (items-++ 𝓛 hs Γ)) (via 𝓤 _ (⊢++ 𝓛 (items hs) (items Γ)) (snd∗ 𝓤 (⋆ 𝓛 (items hs)) (⋆ 𝓛 (items Γ))))
 
-module _ {M : Type 1} {𝓤 : Ura M} {𝓛 : Logic 𝓤} {K : Type 0} {𝓣 : Tables 𝓤 𝓛.H} {E : List Local'} {ss : List Cell} {Γ : List Hold} {e : End 𝓤} {f : Name} {xs : List Operand} {d : ℕ} {rest : Body} where
+module _ {M : Type 1} {𝓤 : Ura M} {𝓛 : Logic 𝓤} {K : Type 0} {𝓣 : Tables 𝓤 𝓛.H} {E : List Local'} {ss : List Cell} {Γ : List Hold} {e : End 𝓤} {f : Callee} {xs : List Operand} {d : ℕ} {rest : Body} where
   -- hold n is the slice, at the list ys; hs are the other arguments. κ' and γ₁ are the lifetime and the name of the loan. The result is R-typed, and Φ says what the contract says of it and of the last list
   pub calls_mut : K → (n : ℕ) (D : Elem) {κ : Lft} {q : Share} {x : MutBor (List D.R.Denot)} {ys : List D.R.Denot} → hold Γ n ≡ mut κ q D x ys
       → (hs : List Hold) (T : Ended) (c : Clauses 𝓤 T) (known : Known 𝓛 𝓣 f T c) (y : Lft → GName → (triple_of 𝓛 T.signature (closing 𝓛 T c)).Ghost) (R : Elem) (Φ : R.R.Denot → List D.R.Denot → Type 0)
@@ -107,9 +107,9 @@ module _ {M : Type 1} {𝓤 : Ura M} {𝓛 : Logic 𝓤} {K : Type 0} {𝓣 : Ta
       → ((κ' : Lft) (γ₁ : GName)
       → (on_entry 𝓛 T.signature (y κ' γ₁).0.0 (y κ' γ₁).0.1 (y κ' γ₁).0.3 (y κ' γ₁).0.4 ≡ sep 𝓤 (tokens 𝓛 (mut κ' full_share D (renamed x γ₁) ys ∷ hs)) (sem 𝓛 (owned_all (mut κ' full_share D (renamed x γ₁) ys ∷ hs))))
       × (alive 𝓛 T.signature (y κ' γ₁).0.0 (y κ' γ₁).0.1 ≡ tokens 𝓛 (mut κ' full_share D (renamed x γ₁) ys ∷ hs))
-      × ((r : Res T.signature (y κ' γ₁).0.0) (v : Val) → (type_at T.signature.result (y κ' γ₁).0.0).own_val r (v ∷ []) ≡ R.R.own (to κ' γ₁ r) (v ∷ []))
+      × ((r : Res T.signature (y κ' γ₁).0.0) (v : Val) → (type_at T.signature.result (y κ' γ₁).0.0).own_val r (v ∷ []) ≡ R.R.own_val (to κ' γ₁ r) (v ∷ []))
       × ((r : Res T.signature (y κ' γ₁).0.0) (ws : Lasts T (y κ' γ₁).0.0 (y κ' γ₁).0.3) → ent 𝓤 ((c (y κ' γ₁).0.0 (y κ' γ₁).0.3).ensures (y κ' γ₁).1 r (at_exit T (y κ' γ₁).0.0 (y κ' γ₁).0.3 ws)) (fact 𝓤 (Φ (to κ' γ₁ r) (last κ' γ₁ ws))))
-      × ((ws : Lasts T (y κ' γ₁).0.0 (y κ' γ₁).0.3) → (Z : Fml) × (lasts T (y κ' γ₁).0.0 (y κ' γ₁).0.3 ws ≡ fsep (fsep (finally D.R γ₁ (last κ' γ₁ ws)) (feq ℕ (length (last κ' γ₁ ws)) (length ys))) Z))
+      × ((ws : Lasts T (y κ' γ₁).0.0 (y κ' γ₁).0.3) → (Z : Fml) × (lasts T (y κ' γ₁).0.0 (y κ' γ₁).0.3 ws ≡ fsep (fsep (fsep (finally D.R γ₁ (last κ' γ₁ ws)) (feq ℕ (length (last κ' γ₁ ws)) (length ys))) (fbor κ' (Held D.R (length ys) x.ref_ptr.0 x.ref_ptr.1 γ₁))) Z))
       × ent 𝓤 (emp 𝓤) ((c (y κ' γ₁).0.0 (y κ' γ₁).0.3).requires (y κ' γ₁).1) × (opds_value E ss xs ≡ passed 𝓛 T.signature (y κ' γ₁).0))
       → Plains hs → opds_good E ss xs → type_of E ss d ≡ some R.τ
       → ((r : R.R.Denot) (zs : List D.R.Denot) → Φ r zs → length zs ≡ length ys → Is R.R r (R.val r ∷ []) → Run K 𝓛 𝓣 E (upd ss d (R.val r)) (swap Γ n (mut κ q D x zs)) rest e)
@@ -135,7 +135,7 @@ module _ {M : Type 1} {𝓤 : Ura M} {𝓛 : Logic 𝓤} {K : Type 0} {𝓣 : Ta
         by t (via 𝓤 _ (under 𝓛 L' (other P ∷ other (flft κ' full_share) ∷ (back hs ++ Γ')) (other P ∷ other (flft κ' full_share) ∷ Γ')
         (under 𝓛 (‵ P) (other (flft κ' full_share) ∷ (back hs ++ Γ')) (other (flft κ' full_share) ∷ Γ') (under 𝓛 (‵ (flft κ' full_share)) (back hs ++ Γ') Γ' (only 𝓛 (back hs) Γ'))))
         (let s : Seq K 𝓛 (L' ∷ ‵ P ∷ ‵ (flft κ' full_share) ∷ items Γ') (runs 𝓣.C 𝓣.Λ E rest (ending 𝓛 𝓣 E e)) =
-        move t (1 ∷ []) $ rewrite t 0 (λ (F : Fml). ‵ F) ((contract κ' γ₁).4 ws).1 refl $ fsplit t $ fsplit t $ move t (2 ∷ []) $ drop t $ move t (1 ∷ []) $ feq_l t (λ same.
+        move t (1 ∷ []) $ rewrite t 0 (λ (F : Fml). ‵ F) ((contract κ' γ₁).4 ws).1 refl $ fsplit t $ fsplit t $ fsplit t $ move t (2 ∷ []) $ drop t $ move t (2 ∷ []) $ drop t $ move t (1 ∷ []) $ feq_l t (λ same.
         move t (0 ∷ 2 ∷ []) $ join t $ join t $ focus t n Γ' ((‵ (finally D.R γ₁ zs) ⊛ ‵ (flft κ' full_share)) ⊛ L') (rewrite t 0 (λ (h : Hold). ‵ (formula h)) (hold_swap Γ n (mut κ q D x ys) (other (LentAgain D κ κ' q x ys γ₁)) tt is) refl $
         move t (1 ∷ []) $ split t $ split t $ move t (1 ∷ []) $ lft_end t tt $ move t (0 ∷ 3 ∷ 1 ∷ []) $
         use3 𝓛 (later (‵ (owned_of (mut κ q D x zs)) ⊛ ‵ (flft κ q))) (comes_back D κ κ' q x ys 𝓛 γ₁ zs facts same) $ await t tt $ split t $ fjoin t $ unfocus t n Γ' L' (mut κ q D x zs)

@@ -2,9 +2,9 @@
 -- whatever else is in the context, and all of them are allocated, and freed, in one step.
 --     locals E ss      local i holds v where the i-th of ss is `has v`, nothing that is known where it is `free` or past the end of ss, and its memory is away, as what is lent, where it is `lent`
 --     begins           a function's locals are allocated and its arguments stored
---     opd-good, opd-value, rv-good, rv-value      what an operand or a right side asks, and what it evaluates to: both compute from the MIR and ss
+--     opd_good, opd_value, rv_good, rv_value      what an operand or a right side asks, and what it evaluates to: both compute from the MIR and ss
 --     operand, rvalue  so they are read;  puts     and a local is stored to
---     forgets-at       what some locals hold is forgotten, as at the end of a turn
+--     forgets_at       what some locals hold is forgotten, as at the end of a turn
 --     take_out, put_in a local's memory goes out, as when it is lent, and comes back
 --     free_all         all are freed, at a function's end
 -- Assumes `Logic`.
@@ -16,17 +16,17 @@ use mathlib.Core.List.{List, [], ◌∷◌}
 use lib.ListN.{get_or, replicate}
 use lib.Dec.{T, ltb, leb}
 use seplogic.Ra.Ura.{Ura}
-use seplogic.Ra.TreeShare.{full_share}
-use mir.Syntax.{Sym, Ty, Tys, ty_int, ty_bool, ty_float, ty_ptr, ty_ref, ty_array, ty_unit, ty_struct, ty_enum, ty_named, ttnil, Step as PStep, deref, field, variant, place, Opd as Operand, copy, int, int_neg, int_big, float, opd_true, opd_false, opd_unit, ptr_const, Rv as RValue, rv_opd, op2, op1, addr_of, aggregate, repeat, Local, local, Fn}
-use mir.Val.{Val, vunit, vbool, vint, vfloat, vptr, vstruct, Vals, of_list, WT, has_ty, bits, as_ptr, Dom, op2_chk, op2_val, op1_chk, op1_val}
+use base.Fraction.{full_share}
+use mir.Syntax.{Sym, Ty, Tys, ty_int, ty_bool, ty_float, ty_ptr, ty_ref, ty_array, ty_unit, ty_struct, ty_enum, ty_param, ty_const, ty_array_p, ty_named, ttnil, Step as PStep, deref, field, variant, place, Opd as Operand, copy, int, int_neg, int_big, float, opd_true, opd_false, opd_unit, ptr_const, size_of, align_of, num_of, fn_addr, vtable, Rv as RValue, rv_opd, op2, op1, addr_of, aggregate, repeat, repeat_p, select, w64, Local, local, Fn}
+use mir.Val.{Val, vunit, vbool, vint, vfloat, vptr, vcode, vstruct, Vals, of_list, WT, has_ty, bits, as_ptr, Dom, op2_chk, op2_val, op1_chk, op1_val}
 use mir.Fields.{get_v}
 use base.Logic.{SProp, ent, sep, wand, all, id⊢, mono_r, all_e, apply∗, never}
 use base.Fml.{Fml, ftrue, fsep, fat, froom, fdies}
-use prog.Memory.{field_at, field_of}
+use prog.Memory.{field_at, field_of, size, align, capped}
 use prog.Wp.{part, read, eval_opd, Env, Calls, Loops, WpFn}
 use types.Logic.{Logic, sem}
 use types.Kit.{Item, ‵, raw, ◌⊛◌, ⋆, Goal, prop, runs, allocs, params', passes, frees, at_ret, Seq, ◌$◌, ◌∵◌, !, qed, by, move, rewrite, use0, use1, use2, drop, split, fsplit, fjoin, frame, each, assume, check, done}
-use types.Run.{Reads, Writes, Opd, Opds, Rv, init, forget, stop, from, lit, neg_lit, unit_lit, true_lit, false_lit, no_more, and_then, of_opd, bin, un, addr, enter, alloc1, alloc0, params1, pass1, pass0, free1, free0}
+use types.Run.{Reads, Writes, Opd, Opds, Rv, init, forget, stop, from, lit, neg_lit, unit_lit, true_lit, false_lit, size_word, align_word, no_more, and_then, of_opd, bin, un, addr, enter, alloc1, alloc0, params1, pass1, pass0, free1, free0}
 use types.Part.{Part, sub, look_in, agg, rep}
 
 -- ---- what a local holds
@@ -189,6 +189,7 @@ as_struct z (vbool b) k = z
 as_struct z (vint w a) k = z
 as_struct z (vfloat f x) k = z
 as_struct z (vptr b o) k = z
+as_struct z (vcode ι) k = z
 as_struct z (vstruct vs) k = k vs
 
 abbrev IsField : Option (Ty × ℕ) → Type 0
@@ -268,6 +269,11 @@ module _ (E : List Local') (ss : List Cell) where
   opd_good opd_false = Unit {0}
   opd_good opd_unit = Unit {0}
   opd_good (ptr_const n) = ⊥
+  opd_good (size_of τ) = Unit {0}
+  opd_good (align_of τ) = Unit {0}
+  opd_good (num_of w τ) = ⊥
+  opd_good (fn_addr c ς) = ⊥
+  opd_good (vtable τ cs) = ⊥
 
   abbrev pub opd_value : Operand → Val
   opd_value (copy (place i st)) = steps_value (got (held ss i)) st
@@ -279,6 +285,11 @@ module _ (E : List Local') (ss : List Cell) where
   opd_value opd_false = vbool false
   opd_value opd_unit = vunit
   opd_value (ptr_const n) = vunit
+  opd_value (size_of τ) = vint w64 (capped (size τ))
+  opd_value (align_of τ) = vint w64 (capped (align τ))
+  opd_value (num_of w τ) = vunit
+  opd_value (fn_addr c ς) = vunit
+  opd_value (vtable τ cs) = vunit
 
   abbrev pub opds_good : List Operand → Type 0
   opds_good [] = Unit {0}
@@ -343,16 +354,20 @@ module _ {M : Type 1} {𝓤 : Ura M} (𝓛 : Logic 𝓤) (K : Type 0) (t : K) (E
     field_in ty_unit vs b k p good Kt h = absurd good
     field_in (ty_struct ν τs) vs b k p good Kt h = field_at_lem ν τs vs b k p (field_at zero τs k) refl good Kt h
     field_in (ty_enum ν τss) vs b k p good Kt h = absurd good
-    field_in (ty_named ν) vs b k p good Kt h = absurd good
+    field_in (ty_param n) vs b k p good Kt h = absurd good
+    field_in (ty_const n) vs b k p good Kt h = absurd good
+    field_in (ty_array_p τ n) vs b k p good Kt h = absurd good
+    field_in (ty_named ν τs) vs b k p good Kt h = absurd good
 
-    field_of : (τ : Ty) (v : Val) (b k : ℕ) {back : Val → Item 𝓤} → Part K 𝓛 (‵ (locals E ss)) full_share τ b zero v back → as_struct ⊥ v (λ vs. IsField (field_of τ k))
+    field_of_lem : (τ : Ty) (v : Val) (b k : ℕ) {back : Val → Item 𝓤} → Part K 𝓛 (‵ (locals E ss)) full_share τ b zero v back → as_struct ⊥ v (λ vs. IsField (field_of τ k))
         → (Kt : Val → SProp 𝓤) → ent 𝓤 Held_now (Kt (as_struct vunit v (λ vs. get_v vs k))) → ent 𝓤 Held_now (Fielded τ b k Kt)
-    field_of τ vunit b k p good Kt h = absurd good
-    field_of τ (vbool x) b k p good Kt h = absurd good
-    field_of τ (vint w n) b k p good Kt h = absurd good
-    field_of τ (vfloat f x) b k p good Kt h = absurd good
-    field_of τ (vptr b' o) b k p good Kt h = absurd good
-    field_of τ (vstruct vs) b k p good Kt h = field_in τ vs b k p good Kt h
+    field_of_lem τ vunit b k p good Kt h = absurd good
+    field_of_lem τ (vbool x) b k p good Kt h = absurd good
+    field_of_lem τ (vint w n) b k p good Kt h = absurd good
+    field_of_lem τ (vfloat f x) b k p good Kt h = absurd good
+    field_of_lem τ (vptr b' o) b k p good Kt h = absurd good
+    field_of_lem τ (vcode ι) b k p good Kt h = absurd good
+    field_of_lem τ (vstruct vs) b k p good Kt h = field_in τ vs b k p good Kt h
 
     pub steps : (i : ℕ) (st : List PStep) → Within E i × steps_good (nth_local E i).0 (held ss i) st → (Kt : Val → SProp 𝓤) → ent 𝓤 Held_now (Kt (steps_value (got (held ss i)) st)) → ent 𝓤 Held_now (eval_opd 𝓤 H E (copy (place i st)) Kt)
     steps i [] g Kt h =
@@ -362,7 +377,7 @@ module _ {M : Type 1} {𝓤 : Ura M} (𝓛 : Logic 𝓤) (K : Type 0) (t : K) (E
     steps i (variant k ∷ st) g Kt h = absurd g.1
     steps i (field k ∷ []) g Kt h =
         let f = field_there (nth_local E i).0 (held ss i) k g.1 in
-        field_of (nth_local E i).0 (got (held ss i)) (nth_local E i).1 k (local_part i g.0 f.0) f.1 Kt h
+        field_of_lem (nth_local E i).0 (got (held ss i)) (nth_local E i).1 k (local_part i g.0 f.0) f.1 Kt h
     steps i (field k ∷ x ∷ st) g Kt h = absurd g.1
 
     pub operand : (x : Operand) → opd_good E ss x → Opd K 𝓛 (‵ (locals E ss) ∷ Γ) E x (opd_value E ss x)
@@ -375,6 +390,11 @@ module _ {M : Type 1} {𝓤 : Ura M} (𝓛 : Logic 𝓤) (K : Type 0) (t : K) (E
     operand opd_false g = false_lit t
     operand opd_unit g = unit_lit t
     operand (ptr_const n) g = absurd g
+    operand (size_of τ) g = size_word t
+    operand (align_of τ) g = align_word t
+    operand (num_of w τ) g = absurd g
+    operand (fn_addr c ς) g = absurd g
+    operand (vtable τ cs) g = absurd g
 
     pub operands : (xs : List Operand) → opds_good E ss xs → Opds K 𝓛 (‵ (locals E ss) ∷ Γ) E xs (opds_value E ss xs)
     operands [] g = no_more t
@@ -412,6 +432,8 @@ module _ (E : List Local') (ss : List Cell) where
   rv_good (addr_of (place i st)) = addr_good E ss i st
   rv_good (aggregate xs) = opds_good E ss xs
   rv_good (repeat x n) = opd_good E ss x
+  rv_good (repeat_p x n) = ⊥
+  rv_good (select m x y) = ⊥
 
   abbrev pub rv_value : RValue → Val
   rv_value (rv_opd x) = opd_value E ss x
@@ -420,14 +442,17 @@ module _ (E : List Local') (ss : List Cell) where
   rv_value (addr_of (place i st)) = addr_value E ss i st
   rv_value (aggregate xs) = vstruct (of_list (opds_value E ss xs))
   rv_value (repeat x n) = vstruct (of_list (replicate n (opd_value E ss x)))
+  rv_value (repeat_p x n) = vunit
+  rv_value (select m x y) = vunit
 
-as_ptr : {M : Type 1} (𝓤 : Ura M) (Kt : Val → SProp 𝓤) (v : Val) → IsPtr v → as_ptr (never 𝓤) v (λ b o. Kt (vptr b o)) ≡ Kt v
-as_ptr 𝓤 Kt vunit g = absurd g
-as_ptr 𝓤 Kt (vbool b) g = absurd g
-as_ptr 𝓤 Kt (vint w a) g = absurd g
-as_ptr 𝓤 Kt (vfloat f x) g = absurd g
-as_ptr 𝓤 Kt (vptr b o) g = refl
-as_ptr 𝓤 Kt (vstruct vs) g = absurd g
+as_ptr_lem : {M : Type 1} (𝓤 : Ura M) (Kt : Val → SProp 𝓤) (v : Val) → IsPtr v → as_ptr (never 𝓤) v (λ b o. Kt (vptr b o)) ≡ Kt v
+as_ptr_lem 𝓤 Kt vunit g = absurd g
+as_ptr_lem 𝓤 Kt (vbool b) g = absurd g
+as_ptr_lem 𝓤 Kt (vint w a) g = absurd g
+as_ptr_lem 𝓤 Kt (vfloat f x) g = absurd g
+as_ptr_lem 𝓤 Kt (vptr b o) g = refl
+as_ptr_lem 𝓤 Kt (vcode ι) g = absurd g
+as_ptr_lem 𝓤 Kt (vstruct vs) g = absurd g
 
 module _ {M : Type 1} {𝓤 : Ura M} (𝓛 : Logic 𝓤) (K : Type 0) (t : K) (E : List Local') (ss : List Cell) (Γ : List (Item 𝓤)) where
   address : (i : ℕ) (st : List PStep) → addr_good E ss i st → Rv K 𝓛 (‵ (locals E ss) ∷ Γ) E (addr_of (place i st)) (addr_value E ss i st)
@@ -437,7 +462,7 @@ module _ {M : Type 1} {𝓤 : Ura M} (𝓛 : Logic 𝓤) (K : Type 0) (t : K) (E
   address i (field k ∷ []) g = absurd g
   address i (field k ∷ deref σ ∷ []) g = record {
     go = λ Kt h. steps 𝓛 K t E ss Γ i (field k ∷ []) (local_is E ss i (field k ∷ []) g.0) (λ v. as_ptr (never 𝓤) v (λ b o. Kt (vptr b o)))
-        (subst (λ (P : SProp 𝓤). ent 𝓤 (⋆ 𝓛 (‵ (locals E ss) ∷ Γ)) P) (sym (as_ptr 𝓤 Kt (steps_value (got (held ss i)) (field k ∷ [])) g.1)) h);
+        (subst (λ (P : SProp 𝓤). ent 𝓤 (⋆ 𝓛 (‵ (locals E ss) ∷ Γ)) P) (sym (as_ptr_lem 𝓤 Kt (steps_value (got (held ss i)) (field k ∷ [])) g.1)) h);
   }
   address i (field k ∷ deref σ ∷ x ∷ st) g = absurd g
   address i (field k ∷ field j ∷ st) g = absurd g
@@ -450,6 +475,8 @@ module _ {M : Type 1} {𝓤 : Ura M} (𝓛 : Logic 𝓤) (K : Type 0) (t : K) (E
   rvalue (addr_of (place i st)) g = address i st g
   rvalue (aggregate xs) g = agg t (operands 𝓛 K t E ss Γ xs g)
   rvalue (repeat x n) g = rep t n (operand 𝓛 K t E ss Γ x g)
+  rvalue (repeat_p x n) g = absurd g
+  rvalue (select m x y) g = absurd g
 
 -- of an environment that a function begins in
 abbrev pub Starts : List Local → List Val → Type 0

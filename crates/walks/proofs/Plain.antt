@@ -1,19 +1,20 @@
 -- The plain types, as elements of slices, parameters and results: those of the language, and structs and enums that hold no reference.
 --     num w        an unsigned integer of that width.        bool, unit
---     struct-of    a declared struct, from its generated `the_type` and its `Laws`: `struct-of T.the_type L.the_laws L.mir refl L.the_copy L.the_plain`.        enum-of      a declared enum, likewise
+--     struct_of    a declared struct, from its generated `the_type` and its `TheLaws`: `struct_of T.the_type L.the_laws L.mir refl L.the_copy L.the_plain`.        enum_of      a declared enum, likewise
 -- Assumes nothing.
 use mathlib.Core.Path.{◌≡◌, refl, sym, subst}
 use mathlib.Core.List.{[], ◌∷◌}
 use mir.Syntax.{Ty, Width, ty_int, ty_bool, ty_unit}
 use mir.Val.{vint, vbool, vunit}
-use denote.Plain.{UInt, uint_Tells, uint_Lawful, uint_Makes, uint_copy, Boolean, bool_Tells, bool_Lawful, bool_Makes, bool-copy, Nothing, Nothing-Tells, Nothing-Lawful, Nothing-Makes, Nothing-copy}
+use denote.Copied.{uint_Copied, bool_Copied, Nothing-Copied}
+use denote.Plain.{UInt, uint_Tells, uint_Lawful, uint_Makes, uint_copy, uint_row_laws, Boolean, bool_Tells, bool_Lawful, bool_Makes, bool-copy, bool-row_laws, Nothing, Nothing-Tells, Nothing-Lawful, Nothing-Makes, Nothing-copy, unit-row_laws}
 use base.Fml.{ftrue}
 use denote.Exit.{yes, unchanged, Exit, Last, left}
 use denote.RattleType.{RattleType}
-use denote.Struct.Struct.{Plains}
+use denote.Struct.Struct.{Plains, Struct-row_laws}
 use denote.Struct.Declared as struct
 use denote.Struct.Laws as struct_laws
-use denote.Enum.Enum.{Plainss, Few}
+use denote.Enum.Enum.{Plainss, Few, Enum-row_laws}
 use denote.Enum.Declared as enum
 use denote.Enum.Laws as enum_laws
 use Rattle.walks.proofs.Holds.{Elem}
@@ -28,6 +29,8 @@ num w = record {
   lawful = λ 𝓛. uint_Lawful 𝓛 w;
   still = λ x f. refl;
   copies = λ 𝓛. uint_copy 𝓛 w;
+  copied = λ 𝓛. uint_Copied 𝓛 w;
+  shr_laws = uint_row_laws w;
   made = λ 𝓛. uint_Makes 𝓛 w;
 }
 
@@ -41,6 +44,8 @@ bool = record {
   lawful = λ 𝓛. bool_Lawful 𝓛;
   still = λ x f. refl;
   copies = λ 𝓛. bool-copy 𝓛;
+  copied = λ 𝓛. bool_Copied 𝓛;
+  shr_laws = bool-row_laws;
   made = λ 𝓛. bool_Makes 𝓛;
 }
 
@@ -54,6 +59,8 @@ unit = record {
   lawful = λ 𝓛. Nothing-Lawful 𝓛;
   still = λ x f. refl;
   copies = λ 𝓛. Nothing-copy 𝓛;
+  copied = λ 𝓛. Nothing-Copied 𝓛;
+  shr_laws = unit-row_laws;
   made = λ 𝓛. Nothing-Makes 𝓛;
 }
 
@@ -71,6 +78,8 @@ struct_of T L τ one cs pl = record {
   lawful = λ 𝓛. struct_laws.lawful T L 𝓛;
   still = stays (struct.row T) (struct_laws.still T cs yes);
   copies = λ 𝓛. struct_laws.copy T cs 𝓛;
+  copied = λ 𝓛. struct_laws.copied T cs 𝓛;
+  shr_laws = λ d. Struct-row_laws (struct.shape T) (struct_laws.copy_row_laws T.parts cs) (T.to d);
   made = λ 𝓛. struct_laws.makes T pl 𝓛;
 }
 
@@ -84,5 +93,7 @@ enum_of T L τ one few cs pl = record {
   lawful = λ 𝓛. enum_laws.lawful T L 𝓛 few;
   still = stays (enum.row T) (enum_laws.still T cs yes);
   copies = λ 𝓛. enum_laws.copy T cs 𝓛;
+  copied = λ 𝓛. enum_laws.copied T cs 𝓛;
+  shr_laws = λ d. Enum-row_laws (enum.shape T) (enum_laws.copy_row_lawss T.parts cs) (T.to d);
   made = λ 𝓛. enum_laws.makes T pl 𝓛;
 }

@@ -10,7 +10,7 @@ use lib.Dec.{T, ltb}
 use native.Mathlib.Nat.{mul-le-mul_right, le_of_lt}
 use native.Mathlib.Omega.{arith}
 use seplogic.Ra.Ura.{Ura}
-use seplogic.Ra.TreeShare.{full_share}
+use base.Fraction.{full_share}
 use mir.Syntax.{Ty, deref, place, copy, int, rv_opd, op2, mul, offset, unsigned, w64, ty_int, ty_ptr, Body, seq, assign, Opd as Operand}
 use mir.Val.{Val, vint, vptr, WT, has_ty}
 use mir.Raw.{raw as raw_ty}
@@ -24,8 +24,8 @@ use types.Part.{look_in}
 use denote.Shadow.{pure_l, pure_i}
 use denote.Laws.{Is, shows}
 use denote.Memory.{mem, cell_at}
-use denote.Ref.{MutBor, at_last}
-use denote.Slice.{slice_val, mut_slice_vals, mut_slice_at, Room}
+use denote.Ref.{Bor, MutBor, at_last}
+use denote.Slice.{slice_val, shr_slice_vals, mut_slice_vals, shr_slice_at, mut_slice_at, Room}
 use denote.Index.{place as place_of, place_is, place_byte, elem_out, elem_back, elem_put, looks_slice, shuts_slice, opens_slice, closes_slice}
 use denote.Steps.{owned}
 use Rattle.walks.proofs.Holds.{Elem, typed_of, Hold, shr, mut, formula, items, hold, swap, swap_same, Says, tells_hold, focus, unfocus}
@@ -44,8 +44,33 @@ module _ {M : Type 1} {𝓤 : Ura M} (𝓛 : Logic 𝓤) (K : Type 0) (t : K) wh
   cell_in : (D : Elem) (q : Share) (v : Val) (b o : ℕ) → ent 𝓤 (H.at q (raw_ty D.τ) b o v) (sem 𝓛 (cell_at q D.R.mir (v ∷ []) b o))
   cell_in D q v b o = subst (λ (τs : List Ty). ent 𝓤 (H.at q (raw_ty D.τ) b o v) (sem 𝓛 (cell_at q τs (v ∷ []) b o))) (sym D.one) (id⊢ 𝓤 _)
 
+  abbrev vals : (D : Elem) → D.R.Denot → List Val
+  vals D y = D.val y ∷ []
+
   pub reads_local : (E : List Local') (ss : List Cell) (Γ : List (Item 𝓤)) (p : ℕ) (v : Val) → held ss p ≡ has v → Within E p → Reads K 𝓛 (‵ (locals E ss) ∷ Γ) (nth_local E p).0 (nth_local E p).1 zero v
   reads_local E ss Γ p v e l = subst (λ (s : Cell). Reads K 𝓛 (‵ (locals E ss) ∷ Γ) (nth_local E p).0 (nth_local E p).1 zero (got s)) e (look_in t 0 (local_part 𝓛 K t E ss p l (is_there (held ss p) v e)))
+
+  module _ (E : List Local') (ss : List Cell) (Γ : List Hold) (n : ℕ) (C : Calls 𝓤 H) (Λ : Loops 𝓤 H) (Q : Post 𝓤 H) (rest : Body) (κ : Lft) (q : Share) (D : Elem) (x : Bor (List D.R.Denot)) (i a p : ℕ)
+      (at_p : held ss p ≡ has (vptr x.ref_ptr.0 a)) (p-in : Within E p) (is-place : place_of (mem D.R).size x.ref_ptr.1 i ≡ a) where
+    load_shr : (d : ℕ) (d₀ : D.R.Denot) → hold Γ n ≡ shr κ q D x → i < length x.now → ((g : Is D.R (get_or x.now i d₀) (vals D (get_or x.now i d₀))) → Stores E ss d (D.val (get_or x.now i d₀)))
+        → (Is D.R (get_or x.now i d₀) (vals D (get_or x.now i d₀)) → Seq K 𝓛 (‵ (locals E (upd ss d (D.val (get_or x.now i d₀)))) ∷ items Γ) (runs C Λ E rest Q))
+        → Seq K 𝓛 (‵ (locals E ss) ∷ items Γ) (runs C Λ E (seq (assign (place d []) (rv_opd (copy (place p (deref D.τ ∷ []))))) rest) Q)
+    load_shr d d₀ is l st k =
+        let b : ℕ = x.ref_ptr.0 in
+        let o : ℕ = x.ref_ptr.1 in
+        let ys : List D.R.Denot = x.now in
+        let y : D.R.Denot = get_or ys i d₀ in
+        focus t n Γ (‵ (locals E ss)) (rewrite t 0 (λ (h : Hold). ‵ (formula h)) is refl $ fsplit t $ fsplit t $ pure_l t (shr_slice_at D.R x (shr_slice_vals x)) (λ facts.
+        looks_slice t tt D.R (D.copied 𝓛) ys b o (λ q'. elem_out t D.R (Is D.R) (shows 𝓛 D.R) (vals D) D.tells q' ys i d₀ b o l (λ g.
+        -- [the element; what it owns; the others; the token's way back; the elements as they are shared; the locals; ..]
+        use1 𝓛 (‵ (fat q' (raw_ty D.τ) b (place_of (mem D.R).size o i) (D.val y))) (cell_out D q' (D.val y) b (place_of (mem D.R).size o i)) $
+        rewrite t 0 (λ (r : ℕ). ‵ (fat q' (raw_ty D.τ) b r (D.val y))) is-place refl $ move t (5 ∷ []) $
+        assigns t (of_opd t (load t (from t (hop t (reads_local E ss _ p (vptr b a) at_p p-in) (stop t))) (look_raw t 1 refl))) (from t (stop t)) (puts 𝓛 K t E ss _ d (D.val y) (st g)) $
+        move t (1 ∷ []) $ rewrite t 0 (λ (r : ℕ). ‵ (fat q' (raw_ty D.τ) b r (D.val y))) (sym is-place) refl $
+        use1 𝓛 (‵ (cell_at q' D.R.mir (vals D y) b (place_of (mem D.R).size o i))) (cell_in D q' (D.val y) b (place_of (mem D.R).size o i)) $ move t (0 ∷ 2 ∷ 3 ∷ []) $
+        elem_back t D.R q' ys i d₀ (vals D y) b o l $ move t (0 ∷ 2 ∷ []) $ shuts_slice t tt D.R q' ys b o $ move t (2 ∷ []) $
+        pure_i t (shr_slice_at D.R x (shr_slice_vals x)) (tt, (tt, tt)) facts $ fjoin t $ fjoin t $ unfocus t n Γ (‵ (locals E (upd ss d (D.val y)))) (shr κ q D x)
+        (subst (λ (Δ : List Hold). Seq K 𝓛 (‵ (locals E (upd ss d (D.val y))) ∷ items Δ) (runs C Λ E rest Q)) (sym (swap_same Γ n (shr κ q D x) is)) (k g))))))
 
   module _ (E : List Local') (ss : List Cell) (Γ : List Hold) (n : ℕ) (C : Calls 𝓤 H) (Λ : Loops 𝓤 H) (Q : Post 𝓤 H) (rest : Body) (κ : Lft) (q : Share) (D : Elem) (x : MutBor (List D.R.Denot)) (i a p : ℕ)
       (at_p : held ss p ≡ has (vptr x.ref_ptr.0 a)) (p-in : Within E p) (is-place : place_of (mem D.R).size x.ref_ptr.1 i ≡ a) where
@@ -53,67 +78,46 @@ module _ {M : Type 1} {𝓤 : Ura M} (𝓛 : Logic 𝓤) (K : Type 0) (t : K) wh
     b = x.ref_ptr.0
 
     abbrev o : ℕ
-    o = x.ptr.1
-
-    abbrev vals : D.R.Denot → List Val
-    vals y = D.val y ∷ []
-
-    load_shr : (d : ℕ) (d₀ : D.R.Denot) → hold Γ n ≡ shr κ q D x → i < length x.now → ((g : Is D.R (get_or x.now i d₀) (vals (get_or x.now i d₀))) → Stores E ss d (D.val (get_or x.now i d₀)))
-        → (Is D.R (get_or x.now i d₀) (vals (get_or x.now i d₀)) → Seq K 𝓛 (‵ (locals E (upd ss d (D.val (get_or x.now i d₀)))) ∷ items Γ) (runs C Λ E rest Q))
-        → Seq K 𝓛 (‵ (locals E ss) ∷ items Γ) (runs C Λ E (seq (assign (place d []) (rv_opd (copy (place p (deref D.τ ∷ []))))) rest) Q)
-    load_shr d d₀ is l st k =
-        let ys : List D.R.Denot = x.now in
-        let y : D.R.Denot = get_or ys i d₀ in
-        focus t n Γ (‵ (locals E ss)) (rewrite t 0 (λ (h : Hold). ‵ (formula h)) is refl $ fsplit t $ fsplit t $ pure_l t (mut_slice_at D.R x (mut_slice_vals x)) (λ facts. fsplit t $ move t (1 ∷ 2 ∷ []) $
-        looks_slice t tt D.R (Is D.R) (shows 𝓛 D.R) vals D.tells (D.copies 𝓛) ys b o (λ q'. elem_out t D.R (Is D.R) (shows 𝓛 D.R) vals D.tells q' ys i d₀ b o l (λ g.
-        -- [the element; what it owns; the others; the open borrow; the borrow; res; the locals; ..]
-        use1 𝓛 (‵ (fat q' (raw_ty D.τ) b (place_of (mem D.R).size o i) (D.val y))) (cell_out D q' (D.val y) b (place_of (mem D.R).size o i)) $
-        rewrite t 0 (λ (r : ℕ). ‵ (fat q' (raw_ty D.τ) b r (D.val y))) is-place refl $ move t (6 ∷ []) $
-        assigns t (of_opd t (load t (from t (hop t (reads_local E ss _ p (vptr b a) at_p p-in) (stop t))) (look_raw t 1 refl))) (from t (stop t)) (puts 𝓛 K t E ss _ d (D.val y) (st g)) $
-        move t (1 ∷ []) $ rewrite t 0 (λ (r : ℕ). ‵ (fat q' (raw_ty D.τ) b r (D.val y))) (sym is-place) refl $
-        use1 𝓛 (‵ (cell_at q' D.R.mir (vals y) b (place_of (mem D.R).size o i))) (cell_in D q' (D.val y) b (place_of (mem D.R).size o i)) $ move t (0 ∷ 2 ∷ 3 ∷ []) $
-        elem_back t D.R q' ys i d₀ (vals y) b o l $ move t (0 ∷ 2 ∷ []) $ shuts_slice t tt D.R q' ys b o $ move t (3 ∷ 2 ∷ []) $ fjoin t $
-        pure_i t (mut_slice_at D.R x (mut_slice_vals x)) (tt, (tt, tt)) facts $ fjoin t $ fjoin t $ unfocus t n Γ (‵ (locals E (upd ss d (D.val y)))) (shr κ q D x)
-        (subst (λ (Δ : List Hold). Seq K 𝓛 (‵ (locals E (upd ss d (D.val y))) ∷ items Δ) (runs C Λ E rest Q)) (sym (swap_same Γ n (shr κ q D x) is)) (k g))))))
+    o = x.ref_ptr.1
 
     abbrev Facts : List D.R.Denot → Type 0
     Facts ys = (mut_slice_vals x ≡ mut_slice_vals (at_last x ys)) × Room D.R (length ys)
 
-    load_mut : (d : ℕ) (d₀ : D.R.Denot) (ys : List D.R.Denot) → hold Γ n ≡ mut κ q D x ys → i < length ys → ((g : Is D.R (get_or ys i d₀) (vals (get_or ys i d₀))) → Stores E ss d (D.val (get_or ys i d₀)))
-        → (Is D.R (get_or ys i d₀) (vals (get_or ys i d₀)) → Seq K 𝓛 (‵ (locals E (upd ss d (D.val (get_or ys i d₀)))) ∷ items Γ) (runs C Λ E rest Q))
+    load_mut : (d : ℕ) (d₀ : D.R.Denot) (ys : List D.R.Denot) → hold Γ n ≡ mut κ q D x ys → i < length ys → ((g : Is D.R (get_or ys i d₀) (vals D (get_or ys i d₀))) → Stores E ss d (D.val (get_or ys i d₀)))
+        → (Is D.R (get_or ys i d₀) (vals D (get_or ys i d₀)) → Seq K 𝓛 (‵ (locals E (upd ss d (D.val (get_or ys i d₀)))) ∷ items Γ) (runs C Λ E rest Q))
         → Seq K 𝓛 (‵ (locals E ss) ∷ items Γ) (runs C Λ E (seq (assign (place d []) (rv_opd (copy (place p (deref D.τ ∷ []))))) rest) Q)
     load_mut d d₀ ys is l st k =
         let y : D.R.Denot = get_or ys i d₀ in
         focus t n Γ (‵ (locals E ss)) (rewrite t 0 (λ (h : Hold). ‵ (formula h)) is refl $ fsplit t $ fsplit t $ pure_l t (mut_slice_at D.R (at_last x ys) (mut_slice_vals x)) (λ facts. fsplit t $
-        opens_slice t tt D.R ys b o $ elem_out t D.R (Is D.R) (shows 𝓛 D.R) vals D.tells full_share ys i d₀ b o l (λ g.
+        opens_slice t tt D.R ys b o $ elem_out t D.R (Is D.R) (shows 𝓛 D.R) (vals D) D.tells full_share ys i d₀ b o l (λ g.
         -- [the element; what it owns; the others; the open borrow; obs; auth; the locals; ..]
         use1 𝓛 (‵ (fat full_share (raw_ty D.τ) b (place_of (mem D.R).size o i) (D.val y))) (cell_out D full_share (D.val y) b (place_of (mem D.R).size o i)) $
         rewrite t 0 (λ (r : ℕ). ‵ (fat full_share (raw_ty D.τ) b r (D.val y))) is-place refl $ move t (6 ∷ []) $
         assigns t (of_opd t (load t (from t (hop t (reads_local E ss _ p (vptr b a) at_p p-in) (stop t))) (look_raw t 1 refl))) (from t (stop t)) (puts 𝓛 K t E ss _ d (D.val y) (st g)) $
         move t (1 ∷ []) $ rewrite t 0 (λ (r : ℕ). ‵ (fat full_share (raw_ty D.τ) b r (D.val y))) (sym is-place) refl $
-        use1 𝓛 (‵ (cell_at full_share D.R.mir (vals y) b (place_of (mem D.R).size o i))) (cell_in D full_share (D.val y) b (place_of (mem D.R).size o i)) $ move t (0 ∷ 2 ∷ 3 ∷ []) $
-        elem_back t D.R full_share ys i d₀ (vals y) b o l $ move t (0 ∷ 2 ∷ 3 ∷ 4 ∷ []) $ closes_slice t tt D.R ys ys refl b o $ fjoin t $
+        use1 𝓛 (‵ (cell_at full_share D.R.mir (vals D y) b (place_of (mem D.R).size o i))) (cell_in D full_share (D.val y) b (place_of (mem D.R).size o i)) $ move t (0 ∷ 2 ∷ 3 ∷ []) $
+        elem_back t D.R full_share ys i d₀ (vals D y) b o l $ move t (0 ∷ 2 ∷ 3 ∷ 4 ∷ []) $ closes_slice t tt D.R ys ys refl b o $ fjoin t $
         pure_i t (mut_slice_at D.R (at_last x ys) (mut_slice_vals x)) (tt, (tt, tt)) facts $ fjoin t $ fjoin t $ unfocus t n Γ (‵ (locals E (upd ss d (D.val y)))) (mut κ q D x ys)
         (subst (λ (Δ : List Hold). Seq K 𝓛 (‵ (locals E (upd ss d (D.val y))) ∷ items Δ) (runs C Λ E rest Q)) (sym (swap_same Γ n (mut κ q D x ys) is)) (k g)))))
 
     after_set : (ys : List D.R.Denot) (y : D.R.Denot) → Facts ys → Facts (set ys i y)
-    after_set ys y f = (f.0 ∙ ap (λ (m : ℕ). slice_val x.ptr m ∷ []) (sym (length-set ys i y)), subst (Room D.R) (sym (length-set ys i y)) f.1)
+    after_set ys y f = (f.0 ∙ ap (λ (m : ℕ). slice_val x.ref_ptr m ∷ []) (sym (length-set ys i y)), subst (Room D.R) (sym (length-set ys i y)) f.1)
 
-    store_mut : (c : ℕ) (d₀ y : D.R.Denot) (ys : List D.R.Denot) → hold Γ n ≡ mut κ q D x ys → i < length ys → held ss c ≡ has (D.val y) → Within E c → Is D.R y (vals y)
+    store_mut : (c : ℕ) (d₀ y : D.R.Denot) (ys : List D.R.Denot) → hold Γ n ≡ mut κ q D x ys → i < length ys → held ss c ≡ has (D.val y) → Within E c → Is D.R y (vals D y)
         → Seq K 𝓛 (‵ (locals E ss) ∷ items (swap Γ n (mut κ q D x (set ys i y)))) (runs C Λ E rest Q)
         → Seq K 𝓛 (‵ (locals E ss) ∷ items Γ) (runs C Λ E (seq (assign (place p (deref D.τ ∷ [])) (rv_opd (copy (place c [])))) rest) Q)
     store_mut c d₀ y ys is l at_c c-in gy k =
         let y₀ : D.R.Denot = get_or ys i d₀ in
         let zs : List D.R.Denot = set ys i y in
         focus t n Γ (‵ (locals E ss)) (rewrite t 0 (λ (h : Hold). ‵ (formula h)) is refl $ fsplit t $ fsplit t $ pure_l t (mut_slice_at D.R (at_last x ys) (mut_slice_vals x)) (λ facts. fsplit t $
-        opens_slice t tt D.R ys b o $ elem_out t D.R (Is D.R) (shows 𝓛 D.R) vals D.tells full_share ys i d₀ b o l (λ g.
+        opens_slice t tt D.R ys b o $ elem_out t D.R (Is D.R) (shows 𝓛 D.R) (vals D) D.tells full_share ys i d₀ b o l (λ g.
         use1 𝓛 (‵ (fat full_share (raw_ty D.τ) b (place_of (mem D.R).size o i) (D.val y₀))) (cell_out D full_share (D.val y₀) b (place_of (mem D.R).size o i)) $
         rewrite t 0 (λ (r : ℕ). ‵ (fat full_share (raw_ty D.τ) b r (D.val y₀))) is-place refl $ move t (6 ∷ []) $
         assigns t (of_opd t (load t (from t (stop t)) (reads_local E ss _ c (D.val y) at_c c-in))) (from t (hop t (reads_local E ss _ p (vptr b a) at_p p-in) (stop t))) (store_raw t 1 refl (typed_of 𝓛 D y gy)) $
         move t (1 ∷ []) $ rewrite t 0 (λ (r : ℕ). ‵ (fat full_share (raw_ty D.τ) b r (D.val y))) (sym is-place) refl $
-        use1 𝓛 (‵ (cell_at full_share D.R.mir (vals y) b (place_of (mem D.R).size o i))) (cell_in D full_share (D.val y) b (place_of (mem D.R).size o i)) $
-        move t (2 ∷ []) $ drop t $ owned t D.R (Is D.R) (D.made 𝓛) y (vals y) gy $ move t (1 ∷ 0 ∷ 3 ∷ []) $
-        elem_put t D.R full_share ys i y (vals y) b o l $ move t (0 ∷ 2 ∷ 3 ∷ 4 ∷ []) $ closes_slice t tt D.R ys zs (length-set ys i y) b o $ fjoin t $
+        use1 𝓛 (‵ (cell_at full_share D.R.mir (vals D y) b (place_of (mem D.R).size o i))) (cell_in D full_share (D.val y) b (place_of (mem D.R).size o i)) $
+        move t (2 ∷ []) $ drop t $ owned t D.R (Is D.R) (D.made 𝓛) y (vals D y) gy $ move t (1 ∷ 0 ∷ 3 ∷ []) $
+        elem_put t D.R full_share ys i y (vals D y) b o l $ move t (0 ∷ 2 ∷ 3 ∷ 4 ∷ []) $ closes_slice t tt D.R ys zs (length-set ys i y) b o $ fjoin t $
         pure_i t (mut_slice_at D.R (at_last x zs) (mut_slice_vals x)) (tt, (tt, tt)) (after_set ys y facts) $ fjoin t $ fjoin t $ unfocus t n Γ (‵ (locals E ss)) (mut κ q D x zs) k)))
 
 -- ---- the statements that compute where an element lies
@@ -222,7 +226,7 @@ module _ (E : List Local') (ss : List Cell) (Γ : List Hold) (n : ℕ) (h : Hold
 
 module _ {M : Type 1} {𝓤 : Ura M} {𝓛 : Logic 𝓤} {K : Type 0} {𝓣 : Tables 𝓤 𝓛.H} {E : List Local'} {ss : List Cell} {Γ : List Hold} {e : End 𝓤} where
   -- `_d = s[z]` of a `&[D]`
-  pub reads : K → (D : Elem) (n : ℕ) (d₀ : D.R.Denot) {κ : Lft} {q : Share} {x : MutBor (List D.R.Denot)} {z r : Operand} {m p d i s : ℕ} {σ : Ty} {rest : Body}
+  pub reads : K → (D : Elem) (n : ℕ) (d₀ : D.R.Denot) {κ : Lft} {q : Share} {x : Bor (List D.R.Denot)} {z r : Operand} {m p d i s : ℕ} {σ : Ty} {rest : Body}
       → Indexed E ss Γ n (shr κ q D x) D z r m p i s x.ref_ptr.0 x.ref_ptr.1 σ → type_of E (upd (upd ss m (vint w64 (i * s))) p (vptr x.ref_ptr.0 (i * s + x.ref_ptr.1))) d ≡ some σ → i < length x.now
       → (Is D.R (get_or x.now i d₀) (D.val (get_or x.now i d₀) ∷ [])
       → Run K 𝓛 𝓣 E (upd (upd (upd ss m (vint w64 (i * s))) p (vptr x.ref_ptr.0 (i * s + x.ref_ptr.1))) d (D.val (get_or x.now i d₀))) Γ rest e)
@@ -291,7 +295,7 @@ module _ {M : Type 1} {𝓤 : Ura M} {𝓛 : Logic 𝓤} {K : Type 0} {𝓣 : Ta
   }
 
   -- `_d = s[z]` of a `&[D]` of bytes
-  pub reads_byte : K → (D : Elem) (n : ℕ) (d₀ : D.R.Denot) {κ : Lft} {q : Share} {x : MutBor (List D.R.Denot)} {z r : Operand} {p d i : ℕ} {σ : Ty} {rest : Body}
+  pub reads_byte : K → (D : Elem) (n : ℕ) (d₀ : D.R.Denot) {κ : Lft} {q : Share} {x : Bor (List D.R.Denot)} {z r : Operand} {p d i : ℕ} {σ : Ty} {rest : Body}
       → (◌≡◌ {A = Bytes} (hold Γ n, opd_value E ss z, opd_value E ss r, type_of E ss p, D.τ, (mem D.R).size) (shr κ q D x, vint w64 i, vptr x.ref_ptr.0 x.ref_ptr.1, some ty_ptr, σ, 1)) × opd_good E ss z × opd_good E ss r
       → type_of E (upd ss p (vptr x.ref_ptr.0 (i + x.ref_ptr.1))) d ≡ some σ → i < length x.now
       → (Is D.R (get_or x.now i d₀) (D.val (get_or x.now i d₀) ∷ []) → Run K 𝓛 𝓣 E (upd (upd ss p (vptr x.ref_ptr.0 (i + x.ref_ptr.1))) d (D.val (get_or x.now i d₀))) Γ rest e)
