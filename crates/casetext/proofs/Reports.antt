@@ -16,7 +16,7 @@ use Rattle.rules.specs.declared.Terms.{Terms}
 use Rattle.rules.proofs.Laws.{opening_refuses}
 use Rattle.store.specs.Schedules.{decoded, entered}
 use Rattle.store.specs.Trials.{terms_of, traced, trial_refusal, trial_left, trial_outcome}
-use Rattle.store.specs.declared.Outcome.TheVariants.{Done, Refused as Opening-refused}
+use Rattle.store.specs.declared.Outcome.TheVariants.{Done, Refused as OpeningRefused}
 use Rattle.casetext.specs.Reading.{Said, reading, told, Drafted}
 use Rattle.casetext.specs.Reading.Said.{accepted, refused}
 use Rattle.casetext.specs.Writing.{Room, Wrote}
@@ -47,11 +47,11 @@ module _ (n k : ℕ) (es held : List ℕ) (room : 5 * length es ≤ length held)
       decide (eqb r 0)
       (λ t. rw (same_refusal, t, entries_of (terms_of k) es (opened n) (drop (5 * length es) held) 1))
       (λ t.
-      let f : Opening-refused r ≡ Done = rw (same_refusal, t) at e in
+      let f : OpeningRefused r ≡ Done = rw (same_refusal, t) at e in
       let z : ◌≡◌ {A = ℕ} 0 1 = cc in
       absurd (omega arith))
 
-  pub refused_text : {number : ℕ} → trial_outcome n k es held ≡ Opening-refused number
+  pub refused_text : {number : ℕ} → trial_outcome n k es held ≡ OpeningRefused number
       → (said_text (accepted n k es) ≡ refusal_text number number) × (number ≤ 9)
   unfolding trial_outcome said_text opened_text
   refused_text {number} e =
@@ -59,11 +59,11 @@ module _ (n k : ℕ) (es held : List ℕ) (room : 5 * length es ≤ length held)
       let small = opening_refuses n (terms_of k) in
       decide (eqb r 0)
       (λ t.
-      let f : Done ≡ Opening-refused number = rw (same_refusal, t) at e in
+      let f : Done ≡ OpeningRefused number = rw (same_refusal, t) at e in
       let z : ◌≡◌ {A = ℕ} 0 1 = cc in
       absurd (omega arith))
       (λ t.
-      let f : Opening-refused r ≡ Opening-refused number = rw (same_refusal, t) at e in
+      let f : OpeningRefused r ≡ OpeningRefused number = rw (same_refusal, t) at e in
       let q : r ≡ number = cc in
       (rw (t, q), omega arith))
 

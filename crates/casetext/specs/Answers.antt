@@ -3,7 +3,7 @@ use Rattle.std.specs.Prelude.{ℕ, List, [], ◌∷◌}
 use Rattle.casetext.specs.declared.Reading.{Reading}
 use Rattle.casetext.specs.declared.Reading.TheVariants.{Case, Refused}
 use Rattle.casetext.specs.declared.Written.{Written}
-use Rattle.casetext.specs.declared.Written.TheVariants.{Bytes, Refused as Not-written}
+use Rattle.casetext.specs.declared.Written.TheVariants.{Bytes, Refused as NotWritten}
 
 -- The number of the refusal and its line; both are 0 where nothing is refused.
 abbrev pub reading_number : Reading → ℕ
@@ -22,8 +22,8 @@ reading_values (Refused number line) = []
 -- The number of the writer's refusal, 0 where nothing is refused; and how many bytes were written, 0 where it is.
 abbrev pub written_number : Written → ℕ
 written_number (Bytes bytes) = 0
-written_number (Not-written number) = number
+written_number (NotWritten number) = number
 
 abbrev pub written_bytes : Written → ℕ
 written_bytes (Bytes bytes) = bytes
-written_bytes (Not-written number) = 0
+written_bytes (NotWritten number) = 0

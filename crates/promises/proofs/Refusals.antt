@@ -31,7 +31,7 @@ use Rattle.store.specs.Runs.{outcome_of, open_refusal, opening, running}
 use Rattle.store.specs.Trials.{trial_left, trial_outcome}
 use Rattle.store.specs.Standings.{standing_refusal, standing_on, standing_of}
 use Rattle.store.specs.declared.Outcome.{Outcome}
-use Rattle.store.specs.declared.Outcome.TheVariants.{Done, Refused as Not-done}
+use Rattle.store.specs.declared.Outcome.TheVariants.{Done, Refused as NotDone}
 use Rattle.store.proofs.Laws.{entry_is, entry_answer_small}
 use Rattle.promises.specs.Sequences.{place_of}
 use Rattle.promises.specs.OneRegister.{Accepted}
@@ -173,7 +173,7 @@ unfolding RefusedAnswers EntryAnswers
 refused_answers k e t r q = let n = ap number_of q in (n, (entry_answers k e t).byte ∙ n)
 
 -- Outcomes.
-outcome_by : {A : Type 0} (r : ℕ) (o : Outcome) → (eqb r 0 ≡ true → o ≡ Done) → (eqb r 0 ≡ false → (o ≡ Not-done r) × A) → OutcomeBy r o A
+outcome_by : {A : Type 0} (r : ℕ) (o : Outcome) → (eqb r 0 ≡ true → o ≡ Done) → (eqb r 0 ≡ false → (o ≡ NotDone r) × A) → OutcomeBy r o A
 outcome_by r o f g =
     decide (eqb r 0)
     (λ e. rw (f e) (record { number = sym (eqb-true r 0 e); unchanged = λ h. absurd (h refl) }))

@@ -18,7 +18,7 @@ use Rattle.rules.proofs.Moves.Move.{edge, choice, walk}
 use Rattle.rules.proofs.Moves.Edge.{asks, signs, turned_away, leaves, drops_token, drops_session}
 use Rattle.rules.proofs.Calls.{Begins, own_move, Next, next}
 use Rattle.rules.proofs.Calls.Next.{still, moves}
-use Rattle.promises.specs.Sequences.{Deed, count, Throughout, asks as asks-in, leaves as Leaves-in}
+use Rattle.promises.specs.Sequences.{Deed, count, Throughout, asks as asks_in, leaves as leaves_in}
 
 -- A call leaves claimant i's record alone, or it is claimant i's, begins where claimant i is, and moves it.
 pub own_next : {n : ℕ} {k : Terms} {c : Call} {at at' : ℕ → Claimant} (i : ℕ) → Next n k c at at'
@@ -53,15 +53,15 @@ last_moves (walk y) h = absurd (omega (arith, (walked y).from))
 
 -- An ask that is not accepted leaves the record alone, and so does such a leave.
 module _ (k : Terms) (t : Table) (i : ℕ) where
-  pub not_asked : (w s : ℕ) → asks-in i (Ask w s) t (called k (Ask w s) t).table ≡ false → record_of (called k (Ask w s) t).table i ≡ record_of t i
-  unfolding asks-in
+  pub not_asked : (w s : ℕ) → asks_in i (Ask w s) t (called k (Ask w s) t).table ≡ false → record_of (called k (Ask w s) t).table i ≡ record_of t i
+  unfolding asks_in
   not_asked w s e = elim (own_next i (next k (Ask w s) t)) [
     | inl h ↦ h
     | inr m ↦ true_not_false (rw (eq-eqb _ 0 m.1.0, eq-eqb _ 1 (first_move m.2 m.1.0)) at e)
   ]
 
-  pub not_left : (w : ℕ) → Leaves-in i (Leave w) t (called k (Leave w) t).table ≡ false → record_of (called k (Leave w) t).table i ≡ record_of t i
-  unfolding Leaves-in
+  pub not_left : (w : ℕ) → leaves_in i (Leave w) t (called k (Leave w) t).table ≡ false → record_of (called k (Leave w) t).table i ≡ record_of t i
+  unfolding leaves_in
   not_left w e = elim (own_next i (next k (Leave w) t)) [
     | inl h ↦ h
     | inr m ↦ true_not_false (rw (eq-eqb _ 10 m.1, eq-eqb _ 11 ((last_moves m.2 (omega (arith, m.1))).leaving m.1)) at e)

@@ -28,7 +28,7 @@ use Rattle.rules.proofs.Moves.Onward.{next_row, last_row}
 use Rattle.rules.proofs.Rows.{has_number, rows_formed}
 use Rattle.rules.proofs.Calls.{accepted}
 use Rattle.rules.proofs.Keeping.{sound_called}
-use Rattle.promises.specs.Sequences.{place_of, count, Throughout, step_of, leaves as Leaves-in}
+use Rattle.promises.specs.Sequences.{place_of, count, Throughout, step_of, leaves as leaves_in}
 use Rattle.promises.specs.Waiting.{most_steps, Unopposed, turns_away, InsideSoon}
 use Rattle.promises.proofs.Steps.{unmoved, not_left}
 
@@ -101,7 +101,7 @@ module _ (n : ℕ) (k : Terms) (i : ℕ) (i-low : 1 ≤ i) (i-high : i ≤ n) wh
     nearing : Nearing n i m (record_of t i)
     unopposed : Throughout (Unopposed i) k cs t
     not_turned_away : count (turns_away i) k cs t ≡ 0
-    no_leave : count (Leaves-in i) k cs t ≡ 0
+    no_leave : count (leaves_in i) k cs t ≡ 0
     steps : m ≤ count (step_of i) k cs t
 
   come : (m m' : ℕ) (c : Call) (cs : List Call) (t : Table) → Coming m (c ∷ cs) t → Nearing n i m' (record_of (called k c t).table i)
@@ -166,7 +166,7 @@ module _ (n : ℕ) (k : Terms) (i : ℕ) (i-low : 1 ≤ i) (i-high : i ≤ n) wh
   unfolding count step_of caller
   advance m (Ask v s) cs t h = passed_by m (Ask v s) cs t h (unmoved k (Ask v s) t i (λ q b. omega (arith, h.nearing.low, b.0))) refl
   advance m (Leave v) cs t h =
-      decide (Leaves-in i (Leave v) t (called k (Leave v) t).table)
+      decide (leaves_in i (Leave v) t (called k (Leave v) t).table)
       (λ e. absurd (omega (arith, rw e at h.no_leave)))
       (λ e. passed_by m (Leave v) cs t h (not_left k t i v e) refl)
   advance m (Step v) cs t h =

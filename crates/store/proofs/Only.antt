@@ -19,7 +19,7 @@ use Rattle.store.specs.Standings.{standing_of}
 use Rattle.store.specs.Trials.{trial_left, trial_outcome}
 use Rattle.store.specs.Schedules.{decoded}
 use Rattle.store.specs.contracts.Entry.decoded as #decoded
-use Rattle.store.specs.contracts.lowest_broken as #lowest-broken
+use Rattle.store.specs.contracts.lowest_broken as #lowest_broken
 use Rattle.store.specs.contracts.open as #open
 use Rattle.store.specs.contracts.call as #call
 use Rattle.store.specs.contracts.run as #run
@@ -42,7 +42,7 @@ only_entry_decoded = record {
   only = λ κs a r r' ws ws' p q. (same p q, refl);
 }
 
-pub only_lowest_broken : Only #lowest-broken.ended (λ M 𝓤. #lowest-broken.clauses)
+pub only_lowest_broken : Only #lowest_broken.ended (λ M 𝓤. #lowest_broken.clauses)
 only_lowest_broken = record {
   φ = λ κs a r ws. r ≡ lowest_broken a.1.0 a.0.now;
   ensures = λ 𝓛 mem run κs a g r ws. refl;

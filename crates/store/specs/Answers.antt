@@ -1,14 +1,14 @@
 -- 01's number and value for each case of what the store answers.
 use Rattle.std.specs.Prelude.{ℕ, ℤ, pos}
 use Rattle.store.specs.declared.Outcome.{Outcome}
-use Rattle.store.specs.declared.Outcome.TheVariants.{Done, Refused as Not-done}
+use Rattle.store.specs.declared.Outcome.TheVariants.{Done, Refused as NotDone}
 use Rattle.store.specs.declared.StandingAnswer.{StandingAnswer}
 use Rattle.store.specs.declared.StandingAnswer.TheVariants.{Is, Refused}
 
 -- The number of the refusal of an opening, a run or a trial; 0 where nothing is refused.
 abbrev pub outcome_number : Outcome → ℕ
 outcome_number Done = 0
-outcome_number (Not-done r) = r
+outcome_number (NotDone r) = r
 
 -- The same of a standing ..
 abbrev pub standing_number : StandingAnswer → ℕ

@@ -10,6 +10,7 @@ use rules::{Answer, Call, Claimant, Terms, Turn};
 
 impl Entry {
     // A 32-bit number: kind × 16,777,216 + claimant × 65,536 + session. Kind 0 is step, 1 ask, 2 leave; only an ask has a session.
+    #[tactic(auto, unfolding(crate::specs::Schedules::decoded))]
     pub fn decoded(number: u32) -> Entry
         ensures { result ≡ decoded number }
     {

@@ -7,6 +7,7 @@ ghost use Rattle.store.specs.Trials.{terms_of, five};
 use rules::{Terms, Turn};
 
 // As many rows as there are claimants; none for more than a table can have, which a trial refuses like none.
+#[tactic(auto, unfolding(crate::specs::Entries::rows_for))]
 pub(crate) fn rows_for(claimants: u32) -> usize
     ensures { result ≡ rows_for claimants }
 {

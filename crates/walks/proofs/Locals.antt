@@ -334,17 +334,17 @@ module _ {M : Type 1} {𝓤 : Ura M} (𝓛 : Logic 𝓤) (K : Type 0) (t : K) (E
     abbrev Fielded : Ty → ℕ → ℕ → (Val → SProp 𝓤) → SProp 𝓤
     Fielded τ b k Kt = part 𝓤 H (field_of τ k) (λ σ d. read 𝓤 H σ b (zero + d) Kt)
 
-    abbrev Held_now : SProp 𝓤
-    Held_now = ⋆ 𝓛 (‵ (locals E ss) ∷ Γ)
+    abbrev held_now : SProp 𝓤
+    held_now = ⋆ 𝓛 (‵ (locals E ss) ∷ Γ)
 
     field_at_lem : (ν : Sym) (τs : Tys) (vs : Vals) (b k : ℕ) {back : Val → Item 𝓤} → Part K 𝓛 (‵ (locals E ss)) full_share (ty_struct ν τs) b zero (vstruct vs) back → (f : Option (Ty × ℕ)) → field_at zero τs k ≡ f → IsField f
-        → (Kt : Val → SProp 𝓤) → ent 𝓤 Held_now (Kt (get_v vs k)) → ent 𝓤 Held_now (part 𝓤 H f (λ σ d. read 𝓤 H σ b (zero + d) Kt))
+        → (Kt : Val → SProp 𝓤) → ent 𝓤 held_now (Kt (get_v vs k)) → ent 𝓤 held_now (part 𝓤 H f (λ σ d. read 𝓤 H σ b (zero + d) Kt))
     field_at_lem ν τs vs b k p none e good Kt h = absurd good
     field_at_lem ν τs vs b k p (some f) e good Kt h =
         let rd : Reads K 𝓛 (‵ (locals E ss) ∷ Γ) f.0 b (zero + f.1) (get_v vs k) = look_in t 0 (sub t k e p) in
         rd.go Kt h
 
-    field_in : (τ : Ty) (vs : Vals) (b k : ℕ) {back : Val → Item 𝓤} → Part K 𝓛 (‵ (locals E ss)) full_share τ b zero (vstruct vs) back → IsField (field_of τ k) → (Kt : Val → SProp 𝓤) → ent 𝓤 Held_now (Kt (get_v vs k)) → ent 𝓤 Held_now (Fielded τ b k Kt)
+    field_in : (τ : Ty) (vs : Vals) (b k : ℕ) {back : Val → Item 𝓤} → Part K 𝓛 (‵ (locals E ss)) full_share τ b zero (vstruct vs) back → IsField (field_of τ k) → (Kt : Val → SProp 𝓤) → ent 𝓤 held_now (Kt (get_v vs k)) → ent 𝓤 held_now (Fielded τ b k Kt)
     field_in (ty_int w) vs b k p good Kt h = absurd good
     field_in ty_bool vs b k p good Kt h = absurd good
     field_in (ty_float f) vs b k p good Kt h = absurd good
@@ -360,7 +360,7 @@ module _ {M : Type 1} {𝓤 : Ura M} (𝓛 : Logic 𝓤) (K : Type 0) (t : K) (E
     field_in (ty_named ν τs) vs b k p good Kt h = absurd good
 
     field_of_lem : (τ : Ty) (v : Val) (b k : ℕ) {back : Val → Item 𝓤} → Part K 𝓛 (‵ (locals E ss)) full_share τ b zero v back → as_struct ⊥ v (λ vs. IsField (field_of τ k))
-        → (Kt : Val → SProp 𝓤) → ent 𝓤 Held_now (Kt (as_struct vunit v (λ vs. get_v vs k))) → ent 𝓤 Held_now (Fielded τ b k Kt)
+        → (Kt : Val → SProp 𝓤) → ent 𝓤 held_now (Kt (as_struct vunit v (λ vs. get_v vs k))) → ent 𝓤 held_now (Fielded τ b k Kt)
     field_of_lem τ vunit b k p good Kt h = absurd good
     field_of_lem τ (vbool x) b k p good Kt h = absurd good
     field_of_lem τ (vint w n) b k p good Kt h = absurd good
@@ -369,7 +369,7 @@ module _ {M : Type 1} {𝓤 : Ura M} (𝓛 : Logic 𝓤) (K : Type 0) (t : K) (E
     field_of_lem τ (vcode ι) b k p good Kt h = absurd good
     field_of_lem τ (vstruct vs) b k p good Kt h = field_in τ vs b k p good Kt h
 
-    pub steps : (i : ℕ) (st : List PStep) → Within E i × steps_good (nth_local E i).0 (held ss i) st → (Kt : Val → SProp 𝓤) → ent 𝓤 Held_now (Kt (steps_value (got (held ss i)) st)) → ent 𝓤 Held_now (eval_opd 𝓤 H E (copy (place i st)) Kt)
+    pub steps : (i : ℕ) (st : List PStep) → Within E i × steps_good (nth_local E i).0 (held ss i) st → (Kt : Val → SProp 𝓤) → ent 𝓤 held_now (Kt (steps_value (got (held ss i)) st)) → ent 𝓤 held_now (eval_opd 𝓤 H E (copy (place i st)) Kt)
     steps i [] g Kt h =
         let rd : Reads K 𝓛 (‵ (locals E ss) ∷ Γ) (nth_local E i).0 (nth_local E i).1 zero (got (held ss i)) = look_in t 0 (local_part i g.0 g.1) in
         rd.go Kt h
