@@ -1,7 +1,8 @@
 /* Colliemist for C: what the program `boardcase` prints for a case text, and
  * case texts read and written.
  *
- * Link with libcolliemist.a, which `./archive` writes (x86-64).
+ * Link with libcolliemist.a, which `./archive` writes, for processors of
+ * x86-64 from its version 2 on.
  * No pointer may be NULL, also where there are 0 bytes or numbers behind it.
  */
 #ifndef COLLIEMIST_H

@@ -80,8 +80,8 @@ pub(crate) fn drafted(text: &[u8], draft: &mut [u32]) -> Reading
 
 // The first `count` entries of a draft into a row that has room for a whole one.
 fn copied(draft: &[u32], count: usize, entries: &mut [u32])
-    requires count_in_bounds { count ≤ length draft.now }
-    requires count_in_bounds_2 { count ≤ length entries.old }
+    requires in_draft { count ≤ length draft.now }
+    requires in_entries { count ≤ length entries.old }
     ensures { entries.new ≡ take count draft.now ++ drop count entries.old }
 {
     let mut i = 0;

@@ -22,7 +22,7 @@ fn put_heading(out: &mut [u8], at: usize, number: u32, who: u32) -> usize
 
 // A do line's report. `left` has the five numbers that its entry left.
 fn put_entry(out: &mut [u8], at: usize, number: u32, entry: u32, left: &[u32]) -> usize
-    requires in_bounds { 5 ≤ length left.now }
+    requires five_numbers { 5 ≤ length left.now }
     requires room { Room out.old at (entry_text number entry left.now) }
     ensures { Wrote out.old at (entry_text number entry left.now) result out.new }
 {
@@ -34,8 +34,8 @@ fn put_entry(out: &mut [u8], at: usize, number: u32, entry: u32, left: &[u32]) -
 
 // The do lines' reports from the row's beginning, and the last line. Each entry left five numbers.
 fn put_run(out: &mut [u8], entries: &[u32], left: &[u32]) -> usize
-    requires entries_len_bound { length entries.now ≤ 2048 }
-    requires entries_in_bounds { 5 * length entries.now ≤ length left.now }
+    requires few_entries { length entries.now ≤ 2048 }
+    requires five_each { 5 * length entries.now ≤ length left.now }
     requires room { Room out.old 0 (run_text entries.now left.now) }
     ensures { Wrote out.old 0 (run_text entries.now left.now) result out.new }
 {
@@ -66,8 +66,8 @@ fn put_trial(
     entries: &[u32],
     left: &mut [u32],
 ) -> usize
-    requires entries_len_bound { length entries.now ≤ 2048 }
-    requires entries_in_bounds { 5 * length entries.now ≤ length left.old }
+    requires few_entries { length entries.now ≤ 2048 }
+    requires five_each { 5 * length entries.now ≤ length left.old }
     requires room { Room out.old 0 (said_text (accepted claimants ceiling entries.now)) }
     ensures { Wrote out.old 0 (said_text (accepted claimants ceiling entries.now)) result out.new }
 {
@@ -80,7 +80,7 @@ fn put_trial(
 
 // The same, with room for what it leaves: a short case isn't made to wait for room that only the longest needs.
 fn put_case(out: &mut [u8], claimants: u32, ceiling: u32, entries: &[u32]) -> usize
-    requires entries_len_bound { length entries.now ≤ 2048 }
+    requires few_entries { length entries.now ≤ 2048 }
     requires room { Room out.old 0 (said_text (accepted claimants ceiling entries.now)) }
     ensures { Wrote out.old 0 (said_text (accepted claimants ceiling entries.now)) result out.new }
 {

@@ -66,8 +66,8 @@ fn turn_size(call: Call) -> usize
 
 // The do lines of a schedule none of whose entries is barred; with the largest numbers there are, a line would have 29 bytes.
 pub(crate) fn lines_size(schedule: &[u32]) -> usize
-    requires schedule_len_bound { length schedule.now ≤ 2048 }
-    requires schedule_value { some_nine schedule.now ≡ false }
+    requires few_entries { length schedule.now ≤ 2048 }
+    requires none_barred { some_nine schedule.now ≡ false }
     ensures value { result ≡ length (do_texts (map call_of schedule.now)) }
     ensures upper_bound { result ≤ 59392 }
 {

@@ -50,7 +50,7 @@ fn put_do(out: &mut [u8], at: usize, call: Call) -> usize
 
 // The do lines of a schedule none of whose entries is barred.
 fn put_lines(out: &mut [u8], from: usize, schedule: &[u32]) -> usize
-    requires schedule_value { some_nine schedule.now ≡ false }
+    requires none_barred { some_nine schedule.now ≡ false }
     requires room { Room out.old from (do_texts (map call_of schedule.now)) }
     ensures { Wrote out.old from (do_texts (map call_of schedule.now)) result out.new }
 {

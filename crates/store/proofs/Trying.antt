@@ -28,6 +28,10 @@ pub few_rows : (claimants : ℕ) → rows_for claimants ≤ 64
 unfolding rows_for
 few_rows c = decide (ltb 64 c) (λ e. rw e (omega arith)) (λ e. rw e (ltb-false 64 c e))
 
+-- So many fit the array that a trial has for them.
+pub rows_fit : {n : ℕ} (claimants : ℕ) → n ≡ rows_for claimants → n ≤ 64
+rows_fit c e = rw e (few_rows c)
+
 module _ (c ceiling : ℕ) (es ls : List ℕ) where
   abbrev k : Terms
   k = terms_of ceiling

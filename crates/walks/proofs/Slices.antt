@@ -1,5 +1,5 @@
 -- The rules for an element of a slice, in the judgement of Walk.antt. Each is for the statements that `s[j]` is: the byte offset, the pointer, and the load or the store.
---     reads        `d = s[j]` of a `&[D]`.        reads-mut    of a `&mut [D]`.        writes       `s[j] = c` of a `&mut [D]`.        writes_byte, reads_byte      the same where an element is one byte, and no offset is computed
+--     reads        `d = s[j]` of a `&[D]`.        reads_mut    of a `&mut [D]`.        writes       `s[j] = c` of a `&mut [D]`.        writes_byte, reads_byte      the same where an element is one byte, and no offset is computed
 -- Assumes `Logic`.
 use mathlib.Core.Path.{◌≡◌, refl, sym, ◌∙◌, ap, subst}
 use Prim.Native.Nat.{ℕ, zero, suc, ◌+◌, ◌*◌, ◌<◌, ◌^◌}

@@ -1,27 +1,25 @@
 -- `trial` meets its contract: its table is the first rows of an array of blank records, as many as it has claimants.
-use Rattle.std.proofs.Common.{◌≡◌, ◌∙◌, ◌≤◌, subst, length}
+use Rattle.std.proofs.Common.{◌≡◌, ◌∙◌, subst, length}
 use Rattle.rules.specs.Tables.{Table}
 use Rattle.store.specs.Runs.{outcome_of}
 use Rattle.store.specs.Trials.{trial_refusal, left_unless}
-use Rattle.store.proofs.Trying.{few_rows, blank_part, part_formed, part_size, tried}
+use Rattle.store.proofs.Trying.{rows_fit, blank_part, part_formed, part_size, tried}
 use Rattle.store.proofs.trial.Goals as goal
 
 pub slice_bounds-rows-end : goal.slice_bounds-rows-end
-slice_bounds-rows-end c = rw c.rows_for-n.ensures (few_rows c.args.claimants)
+slice_bounds-rows-end c = rows_fit c.args.claimants c.rows_for-n.ensures
 
 pub slice_bounds-trace-end : goal.slice_bounds-trace-end
 slice_bounds-trace-end c =
-    let n : c.rows_for-n.result ≤ 64 = rw c.rows_for-n.ensures (few_rows c.args.claimants) in
-    part_size c.rows_for-n.result c.blank-blank.result n
+    part_size c.rows_for-n.result c.blank-blank.result (rows_fit c.args.claimants c.rows_for-n.ensures)
 
 pub trace-requires : goal.trace-requires
 trace-requires c =
-    let n : c.rows_for-n.result ≤ 64 = rw c.rows_for-n.ensures (few_rows c.args.claimants) in
-    part_formed c.rows_for-n.result c.terms_of-terms.result c.blank-blank.result c.blank-blank.ensures n
+    part_formed c.rows_for-n.result c.terms_of-terms.result c.blank-blank.result c.blank-blank.ensures (rows_fit c.args.claimants c.rows_for-n.ensures)
 
 pub returns : goal.returns
 returns c =
-    let n : c.rows_for-n.result ≤ 64 = rw c.rows_for-n.ensures (few_rows c.args.claimants) in
+    let n = rows_fit c.args.claimants c.rows_for-n.ensures in
     let es = c.args.schedule.now in
     let ls = c.args.left.now in
     let P : Table → Type 0 = λ t.

@@ -12,7 +12,7 @@ pub copied-requires : goal.copied-requires
 copied-requires c =
     let d = c.drafted-said in
     let h = told_count d.new.draft (reading c.args.text.now) (sym c.in-Case.ensures.value) d.ensures.drafted in
-    record { count_in_bounds = h; count_in_bounds_2 = omega arith }
+    record { in_draft = h; in_entries = omega arith }
 
 pub returns-in-Case : goal.returns-in-Case
 returns-in-Case c =

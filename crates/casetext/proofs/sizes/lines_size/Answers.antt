@@ -12,7 +12,7 @@ returns-in_default-clause-value c =
     let l = c.loop-i in
     let es = c.args.schedule.now in
     let t = entry_barred (get_or es l.i 0) _ _ (sym c.in_default.ensures) in
-    true_not_false (sym t ∙ no_nine es c.requires.schedule_value l.i (omega arith))
+    true_not_false (sym t ∙ no_nine es c.requires.none_barred l.i (omega arith))
 
 pub loop-i-preserved : goal.loop-i-preserved
 loop-i-preserved c =

@@ -16,7 +16,7 @@ returns-in_default c =
     let l = c.loop-i in
     let es = c.args.schedule.now in
     let t = entry_barred (get_or es l.i 0) _ _ (sym c.in_default.ensures) in
-    true_not_false (sym t ∙ no_nine es c.requires.schedule_value l.i (omega arith))
+    true_not_false (sym t ∙ no_nine es c.requires.none_barred l.i (omega arith))
 
 pub put_do-at-requires : goal.put_do-at-requires
 put_do-at-requires c =

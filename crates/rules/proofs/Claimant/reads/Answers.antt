@@ -36,4 +36,4 @@ returns-in-7 c = ⊎_elim (λ e. rw e) (λ e. rw e) c.in-7.is
 pub returns-in_default : goal.returns-in_default
 unfolding reads
 returns-in_default c =
-    sym (no_other c.args.self.other c.args.self.place (search rules, search rules, search rules, search rules, search rules))
+    sym (no_other c.args.self.other c.args.self.place (search rules))

@@ -71,4 +71,4 @@ returns-in-12 c = c.drop_session.ensures ∙ at_place _ _ _ _ _ c.in-12.is
 
 pub returns-in_default : goal.returns-in_default
 returns-in_default c =
-    c.reached.ensures ∙ sym (no_step _ _ _ _ _ _ (search rules, search rules, search rules, search rules, search rules, search rules, search rules, search rules, search rules, search rules, search rules))
+    c.reached.ensures ∙ sym (no_step _ _ _ _ _ _ (search rules))
