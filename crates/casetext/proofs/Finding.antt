@@ -1,13 +1,32 @@
--- What is broken was not found, and what is true is not false.
+-- What is found, and what is not.
 -- Assumes nothing.
-use mathlib.Core.Path.{◌≡◌}
-use mathlib.Core.Bool.{true, false}
-use native.Mathlib.Omega.{arith}
 use Prim.Native.Nat.{ℕ}
-use Rattle.casetext.specs.declared.Found.TheVariants.{Is, Broken}
+use mathlib.Core.Path.{◌≡◌, refl, ap}
+use mathlib.Core.Bool.{true, false}
+use Rattle.std.specs.Prelude.{Option, None, Some}
+use Rattle.casetext.specs.Pieces.{found, and_then}
+use Rattle.casetext.specs.declared.cursor.Found.{Found}
 
-pub not_found {ℓ} : {A : Type ℓ} {value next : ℕ} → Broken ≡ Is value next → A
-not_found e = let z : ◌≡◌ {A = ℕ} 0 1 = cc in absurd (omega arith)
+-- What is not there was not found, and what is true is not false.
+pub not_found {ℓ} : {A : Type ℓ} {B : Type 0} {x : B} → None ≡ Some x → A
+not_found e = absurd cc
 
 pub true_not_false {ℓ} : {A : Type ℓ} → true ≡ false → A
-true_not_false e = let z : ◌≡◌ {A = ℕ} 0 1 = cc in absurd (omega arith)
+true_not_false e = absurd cc
+
+pub none_found : {A : Type 0} (o : Option A) → ((x : A) → o ≡ Some x → ⊥) → o ≡ None
+none_found None h = refl
+none_found (Some x) h = absurd (h x refl)
+
+-- What comes of a thing found was found of it.
+pub found_of : {A B : Type 0} (o : Option A) {f : A → Option B} {y : B} → and_then o f ≡ Some y → (x : A) × (o ≡ Some x) × (f x ≡ Some y)
+found_of None e = not_found e
+found_of (Some x) e = (x, refl, e)
+
+-- What was found twice was found once.
+pub same_found : {v n v' n' : ℕ} → found v n ≡ found v' n' → (v ≡ v') × (n ≡ n')
+same_found {v} {n} {v'} {n'} e =
+    let f : Found = record { value = v; next = n } in
+    let g : Found = record { value = v'; next = n' } in
+    let r : f ≡ g = cc in
+    (ap (λ (x : Found). x.value) r, ap (λ (x : Found). x.next) r)

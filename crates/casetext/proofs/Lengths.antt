@@ -2,14 +2,12 @@
 -- Assumes nothing.
 use Prim.Native.Nat.{ℕ, ◌+◌, ◌*◌, ◌≤◌}
 use native.Mathlib.Omega.{arith}
-use mathlib.Core.Path.{◌≡◌, refl, ap, ◌∙◌}
+use mathlib.Core.Path.{◌≡◌, refl}
 use mathlib.Core.List.{List, [], ◌∷◌}
-use lib.Dec.{eqb}
-use lib.ListN.{length, length-append, length-map}
-use borrow.Author.Tests.{eqb-true}
-use borrow.Table.Steps.{cases as decide}
-use Rattle.rules.specs.Tests.{first}
-use Rattle.rules.specs.Answers.{number_of}
+use lib.ListN.{length, length-append}
+use Rattle.std.specs.Prelude.{Ok, Err}
+use Rattle.rules.specs.Tests.{Verdict, first}
+use Rattle.rules.specs.Answers.{refusal_number, number_of}
 use Rattle.rules.specs.Rules.{open_refusals}
 use Rattle.rules.specs.Tables.{Table, opened, record_of, Opens, Sound}
 use Rattle.rules.specs.declared.Terms.{Terms}
@@ -18,15 +16,15 @@ use Rattle.store.specs.Schedules.{claimant_in, decoded, entered}
 use Rattle.store.specs.Trials.{terms_of, traced}
 use Rattle.store.proofs.Laws.{entry_keeps_sound, entry_answer_small}
 use Rattle.casetext.specs.Words.{ascii}
-use Rattle.casetext.specs.Layout.{entry_of, line_text}
+use Rattle.casetext.specs.Layout.{line_text}
 use Rattle.casetext.specs.Reading.{Said, reading}
 use Rattle.casetext.specs.Reading.Said.{accepted, refused}
 use Rattle.casetext.specs.Report.{entry_text, entries_text, refusal_text, run_text, opened_text, said_text, printed}
-use Rattle.casetext.specs.Promises.{IsCase, Cause, ReportFits, PrintsSomething}
+use Rattle.casetext.specs.Promises.{Cause, ReportFits, PrintsSomething}
 use Rattle.casetext.specs.Promises.FirstBad.{line_1, line_2, line_3_on}
 use Rattle.casetext.specs.Promises.Cause.{long, broken, many}
-use Rattle.casetext.proofs.Puts.{numeral_short}
-use Rattle.casetext.proofs.Promises.{accepted_exactly, refused_exactly}
+use Rattle.casetext.proofs.Measures.{numeral_short}
+use Rattle.casetext.proofs.Promises.{case_few, accepted_exactly, refused_exactly}
 
 -- The line of a do line, at the widest numbers that it can have.
 entry_short : (number entry place session raised token answer : ℕ) (rest : List ℕ)
@@ -79,33 +77,37 @@ cause_small (broken a l (line_2 n rest b h e o)) = omega arith
 cause_small (broken a l (line_3_on n k ts rest b hn hk r m e o d)) = omega arith
 cause_small (many a l m) = omega (arith, m.at)
 
-pub case_few : {s : List ℕ} {n k : ℕ} {es : List ℕ} → IsCase s n k es → length es ≤ 2048
-case_few c = omega (arith, c.few, ap length c.says ∙ length-map c.calls entry_of)
-
 said_short : (s : List ℕ) (r : Said) → reading s ≡ r → length (said_text r) ≤ 153609
 unfolding said_text opened_text
-said_short s (accepted n k es) e =
-    let c = (accepted_exactly s n k es).0 e in
-    let r = first (open_refusals n (terms_of k)) in
-    let small = opening_refuses n (terms_of k) in
-    decide (eqb r 0)
-    (λ t. rw t (run_short {k = terms_of k} c.written.second es ((opens_exactly n (terms_of k)).0 (eqb-true r 0 t)) (case_few c)))
-    (λ t. rw t (refusal_short r r (omega arith) (omega arith)))
-said_short s (refused number line) e =
-    let h = cause_small ((refused_exactly s number line).0 e) in
-    refusal_short number line h.0 h.1
+said_short s (accepted n k es) e = go (first (open_refusals n (terms_of k))) refl
+  where
+    go : (v : Verdict) → first (open_refusals n (terms_of k)) ≡ v → length (opened_text v n k es) ≤ 153609
+    go (Ok u) t =
+        let c = (accepted_exactly s n k es).0 e in
+        run_short {k = terms_of k} c.written.second es ((opens_exactly n (terms_of k)).0 t) (case_few c)
+    go (Err r) t =
+        let small = opening_refuses n (terms_of k) r t in
+        refusal_short (refusal_number r) (refusal_number r) (omega arith) (omega arith)
+said_short s (refused r line) e =
+    let h = cause_small ((refused_exactly s r line).0 e) in
+    refusal_short (refusal_number r) line h.0 h.1
 
 pub report_fits : ReportFits
 unfolding printed
 report_fits s = said_short s (reading s) refl
 
+refusal_something : (number line : ℕ) → 1 ≤ length (refusal_text number line)
+unfolding refusal_text
+refusal_something number line = omega arith
+
 said_something : (r : Said) → 1 ≤ length (said_text r)
-unfolding said_text opened_text run_text refusal_text
-said_something (accepted n k es) =
-    decide (eqb (first (open_refusals n (terms_of k))) 0)
-    (λ t. rw t (rw length-append (omega arith)))
-    (λ t. rw t (omega arith))
-said_something (refused number line) = omega arith
+unfolding said_text opened_text run_text
+said_something (accepted n k es) = go (first (open_refusals n (terms_of k)))
+  where
+    go : (v : Verdict) → 1 ≤ length (opened_text v n k es)
+    go (Ok u) = rw length-append (omega arith)
+    go (Err r) = refusal_something (refusal_number r) (refusal_number r)
+said_something (refused r line) = refusal_something (refusal_number r) line
 
 pub prints_something : PrintsSomething
 unfolding printed

@@ -4,12 +4,13 @@ pub mod Words
 pub mod Digits
 pub mod Gathering
 pub mod Stands
+pub mod Numbered
 pub mod Numerals
 pub mod Turns
 pub mod Texts
 pub mod Promises
 pub mod Readings
-pub mod Puts
+pub mod Pens
 pub mod Measures
 pub mod Schedules
 pub mod Refusals

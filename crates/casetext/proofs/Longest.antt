@@ -13,7 +13,8 @@ use Rattle.casetext.specs.Layout.{entry, head_text, do_text, do_texts}
 use Rattle.casetext.specs.Written.{some_nine, schedule_text, written}
 use Rattle.casetext.specs.Answers.{written_number, written_bytes}
 use Rattle.casetext.specs.RoundTrips.{WriterHappens}
-use Rattle.casetext.specs.declared.Written.TheVariants.{Bytes, Refused}
+use Rattle.std.specs.Prelude.{Ok, Err}
+use Rattle.rules.specs.declared.Refusal.TheVariants.{NoCall, TooLong, TooManyLines}
 use Rattle.casetext.proofs.Measures.{size_one, size_at, head_size, ask_size, do_size}
 use Rattle.casetext.proofs.Schedules.{lines}
 use Rattle.casetext.proofs.Refusals.{refused_as, written_as, refuses_9, refuses_13, refuses_11_long, refuses_11_short, refuses_none}
@@ -21,7 +22,6 @@ use Rattle.casetext.proofs.Refusals.{refused_as, written_as, refuses_9, refuses_
 -- The same entry so many times.
 module _ (e : ℕ) where
   repeated_none : is_nine e ≡ false → (m : ℕ) → some_nine (replicate m e) ≡ false
-  unfolding some_nine
   repeated_none h zero = refl
   repeated_none h (suc m) = rw h (repeated_none h m)
 
@@ -48,51 +48,51 @@ module _ (m : ℕ) (is : m ≡ 2046) (lent : List ℕ) (room : 32768 ≤ length 
   few : length (replicate m asked) ≤ 2048
   few = omega (arith, length-replicate m asked)
 
-  asks_written : written 64 4294967295 (replicate m asked) lent ≡ Bytes 32768
+  asks_written : written 64 4294967295 (replicate m asked) lent ≡ Ok 32768
   asks_written =
-      let size : length (schedule_text 64 4294967295 (replicate m asked)) ≡ 32768 = omega (arith, asks_size 64 m, size_at 1 64 (omega arith) (omega arith)) in
-      let none = refuses_none 64 4294967295 (replicate m asked) (length lent) (repeated_none asked refl m) few (omega (arith, size)) (omega (arith, size)) in
-      sym (written_as 64 4294967295 (replicate m asked) lent none).0 ∙ ap Bytes size
+      let size : length (schedule_text 64 4294967295 (replicate m asked)) ≡ 32768 =
+      omega (arith, asks_size 64 m, size_at 1 64 (omega arith) (omega arith)) in
+      let none =
+      refuses_none 64 4294967295 (replicate m asked) (length lent) (repeated_none asked refl m) few (omega (arith, size)) (omega (arith, size)) in
+      sym (written_as 64 4294967295 (replicate m asked) lent none).0 ∙ ap Ok size
 
-  asks_over : written 100 4294967295 (replicate m asked) lent ≡ Refused 11
+  asks_over : written 100 4294967295 (replicate m asked) lent ≡ Err TooLong
   asks_over =
-      let size : length (schedule_text 100 4294967295 (replicate m asked)) ≡ 32769 = omega (arith, asks_size 100 m, size_at 2 100 (omega arith) (omega arith)) in
+      let size : length (schedule_text 100 4294967295 (replicate m asked)) ≡ 32769 =
+      omega (arith, asks_size 100 m, size_at 2 100 (omega arith) (omega arith)) in
       let long = refuses_11_long 100 4294967295 (replicate m asked) (length lent) (repeated_none asked refl m) few (omega (arith, size)) in
-      sym (refused_as 100 4294967295 (replicate m asked) lent 11 (omega arith) long).0
+      sym (refused_as 100 4294967295 (replicate m asked) lent long).0
 
 -- A case of nobody: the head alone.
 nobody_size : length (schedule_text 0 0 []) ≡ 22
 unfolding do_texts
 nobody_size = omega (arith, length-append (head_text 0 0) [], head_size 0 0, size_one 0 (omega arith))
 
-nobody : (lent : List ℕ) → 22 ≤ length lent → written 0 0 [] lent ≡ Bytes 22
-unfolding some_nine
+nobody : (lent : List ℕ) → 22 ≤ length lent → written 0 0 [] lent ≡ Ok 22
 nobody lent room =
     let none = refuses_none 0 0 [] (length lent) refl (omega arith) (omega (arith, nobody_size)) (omega (arith, nobody_size)) in
-    sym (written_as 0 0 [] lent none).0 ∙ ap Bytes nobody_size
+    sym (written_as 0 0 [] lent none).0 ∙ ap Ok nobody_size
 
-no_room : written 0 0 [] [] ≡ Refused 11
-unfolding some_nine
+no_room : written 0 0 [] [] ≡ Err TooLong
 no_room =
     let short = refuses_11_short 0 0 [] 0 refl (omega arith) (omega (arith, nobody_size)) in
-    sym (refused_as 0 0 [] [] 11 (omega arith) short).0
+    sym (refused_as 0 0 [] [] short).0
 
 -- 2,049 steps, and a barred entry after them.
 module _ (m : ℕ) (is : m ≡ 2049) (lent : List ℕ) where
-  steps_many : written 1 1 (replicate m 0) lent ≡ Refused 13
+  steps_many : written 1 1 (replicate m 0) lent ≡ Err TooManyLines
   steps_many =
       let many = refuses_13 1 1 (replicate m 0) (length lent) (repeated_none 0 refl m) (omega (arith, length-replicate {A = ℕ} m 0)) in
-      sym (refused_as 1 1 (replicate m 0) lent 13 (omega arith) many).0
+      sym (refused_as 1 1 (replicate m 0) lent many).0
 
 last_nine : (m : ℕ) → some_nine (replicate m 0 ++ (entry 3 1 0 ∷ [])) ≡ true
-unfolding some_nine
 last_nine zero = refl
 last_nine (suc m) = last_nine m
 
-barred_last : (m : ℕ) (lent : List ℕ) → written 1 1 (replicate m 0 ++ (entry 3 1 0 ∷ [])) lent ≡ Refused 9
+barred_last : (m : ℕ) (lent : List ℕ) → written 1 1 (replicate m 0 ++ (entry 3 1 0 ∷ [])) lent ≡ Err NoCall
 barred_last m lent =
     let es = replicate m 0 ++ (entry 3 1 0 ∷ []) in
-    sym (refused_as 1 1 es lent 9 (omega arith) (refuses_9 1 1 es (length lent) (last_nine m))).0
+    sym (refused_as 1 1 es lent (refuses_9 1 1 es (length lent) (last_nine m))).0
 
 pub writer_happens : WriterHappens
 writer_happens lent room = record {

@@ -1,6 +1,6 @@
 -- A number's text, digit by digit, and that reading it gives the number back.
 -- Assumes nothing.
-use Prim.Native.Nat.{ℕ, zero, suc, ◌+◌, ◌-◌, ◌*◌, ◌/◌, ◌%◌, ◌≤◌, ◌<◌}
+use Prim.Native.Nat.{ℕ, zero, suc, ◌+◌, ◌-◌, ◌*◌, ◌/◌, ◌%◌, ◌^◌, ◌≤◌, ◌<◌}
 use native.Mathlib.Numerals.{add-one}
 use native.Mathlib.Omega.{arith}
 use mathlib.Core.Path.{◌≡◌, refl, sym, ap, ◌∙◌}
@@ -9,10 +9,14 @@ use mathlib.Core.List.{List, [], ◌∷◌, ◌++◌, append_assoc, append-nil}
 use lib.Dec.{eqb, leb, ltb}
 use lib.ListN.{length, get_or, drop, length-append}
 use lib.Seq.{drop-cons}
-use borrow.Author.Tests.{lt-ltb, le-ltb, le-leb, ltb-true, ltb-false, ne_eqb, eqb-true, eqb-false}
-use Rattle.casetext.specs.Numerals.{numeral, numeral_within, pair, four}
-use Rattle.casetext.specs.Pieces.{is_digit, digits_from, number_at}
-use Rattle.casetext.specs.declared.Found.TheVariants.{Is}
+use borrow.Author.Tests.{lt-ltb, le-ltb, le-leb, leb-true, ltb-true, ltb-false, ne_eqb, eqb-true, eqb-false}
+use Rattle.std.specs.Fmt.{decimal}
+use Rattle.std.proofs.lemmas.Fmt.{decimal_digit, decimal_step}
+use Rattle.casetext.specs.Numerals.{numeral, numeral_within}
+use Rattle.std.specs.Prelude.{Some}
+use Rattle.std.specs.Char.{is_ascii_digit}
+use Rattle.casetext.specs.Pieces.{found, digits_from, number_at}
+use Rattle.casetext.specs.declared.cursor.Found.{Found}
 use borrow.Table.Steps.{cases as decide}
 use Rattle.casetext.proofs.Finding.{true_not_false, not_found}
 use Rattle.casetext.proofs.Words.{byte_inside}
@@ -72,15 +76,15 @@ numeral_first =
 
 -- what comes after a number is no digit
 abbrev pub NoDigit : List ℕ → Type 0
-NoDigit l = is_digit (get_or l 0 0) ≡ false
+NoDigit l = is_ascii_digit (get_or l 0 0) ≡ false
 
 -- one digit read
-digit_read : (most v at b : ℕ) (l : List ℕ) → is_digit b ≡ true → v * 10 + (b - 48) ≤ most
+digit_read : (most v at b : ℕ) (l : List ℕ) → is_ascii_digit b ≡ true → v * 10 + (b - 48) ≤ most
     → digits_from most v at (b ∷ l) ≡ digits_from most (v * 10 + (b - 48)) (suc at) l
 unfolding digits_from
 digit_read most v at b l d h = rw (d, le-leb _ _ h)
 
-digits_over : (most v at : ℕ) (l : List ℕ) → NoDigit l → digits_from most v at l ≡ Is v at
+digits_over : (most v at : ℕ) (l : List ℕ) → NoDigit l → digits_from most v at l ≡ found v at
 unfolding digits_from
 digits_over most v at [] d = refl
 digits_over most v at (b ∷ l) d = rw d
@@ -104,7 +108,7 @@ digits_read most =
 
 -- a number that stands at a place, and no digit after it, is found there
 module _ (most : ℕ) {s : List ℕ} {at next : ℕ} where
-  zero_found : Stands s at next (numeral 0) → number_at most s at ≡ Is 0 next
+  zero_found : Stands s at next (numeral 0) → number_at most s at ≡ found 0 next
   unfolding number_at
   zero_found p =
       let z = numeral_one 0 (omega arith) in
@@ -112,7 +116,7 @@ module _ (most : ℕ) {s : List ℕ} {at next : ℕ} where
       let e : next ≡ at + 1 = rw z at p.ends in
       rw (b, e)
 
-  some_found : (n : ℕ) → 1 ≤ n → n ≤ most → Stands s at next (numeral n) → NoDigit (drop next s) → number_at most s at ≡ Is n next
+  some_found : (n : ℕ) → 1 ≤ n → n ≤ most → Stands s at next (numeral n) → NoDigit (drop next s) → number_at most s at ≡ found n next
   unfolding number_at
   some_found n o h p d =
       let f = numeral_first n o (drop next s) in
@@ -120,16 +124,16 @@ module _ (most : ℕ) {s : List ℕ} {at next : ℕ} where
       rw (ne_eqb (get_or s at 0) 48 (omega arith), is_digit_lem (get_or s at 0) (omega arith) (omega arith), p.text)
       (digits_read most n h at (drop next s) ∙ rw (← p.ends) (digits_over most n next (drop next s) d))
 
-  pub number_found : (n : ℕ) → n ≤ most → Stands s at next (numeral n) → NoDigit (drop next s) → number_at most s at ≡ Is n next
+  pub number_found : (n : ℕ) → n ≤ most → Stands s at next (numeral n) → NoDigit (drop next s) → number_at most s at ≡ found n next
   number_found n h p d =
       decide (eqb n 0)
       (λ t. let z = eqb-true n 0 t in rw z (zero_found (rw z at p)))
       (λ t. let z = eqb-false n 0 t in some_found n (omega arith) h p d)
 
-digit_range : (b : ℕ) → is_digit b ≡ true → (48 ≤ b) × (b ≤ 57)
+digit_range : (b : ℕ) → is_ascii_digit b ≡ true → (48 ≤ b) × (b ≤ 57)
 digit_range b e =
-    decide (ltb b 48) (λ t. true_not_false (sym (rw t at e)))
-    (λ t. decide (ltb 57 b) (λ u. true_not_false (sym (rw (t, u) at e))) (λ u. (ltb-false b 48 t, ltb-false 57 b u)))
+    decide (leb 48 b) (λ t. decide (leb b 57) (λ u. (leb-true 48 b t, leb-true b 57 u)) (λ u. true_not_false (sym (rw (t, u) at e))))
+    (λ t. true_not_false (sym (rw t at e)))
 
 -- digits that were read on from a number are the end of the numeral that they come to
 record ReadOn (l : List ℕ) (v at n next : ℕ) : Type 0 where
@@ -138,19 +142,19 @@ record ReadOn (l : List ℕ) (v at n next : ℕ) : Type 0 where
   pub whole : numeral n ≡ numeral v ++ digits
   pub ends : next ≡ at + length digits
 
-read_on : (most : ℕ) (l : List ℕ) (v at : ℕ) {n next : ℕ} → 1 ≤ v → digits_from most v at l ≡ Is n next → ReadOn l v at n next
+read_on : (most : ℕ) (l : List ℕ) (v at : ℕ) {f : Found} → 1 ≤ v → digits_from most v at l ≡ Some f → ReadOn l v at f.value f.next
 unfolding digits_from
-read_on most [] v at {n} {next} o e =
-    let p : v ≡ n = cc in
-    let q : at ≡ next = cc in
+read_on most [] v at {f} o e =
+    let p : v ≡ f.value = cc in
+    let q : at ≡ f.next = cc in
     record { digits = []; text = refl; whole = rw (append-nil, p); ends = omega arith }
-read_on most (b ∷ l) v at {n} {next} o e =
-    decide (is_digit b)
+read_on most (b ∷ l) v at {f} o e =
+    decide (is_ascii_digit b)
     (λ d. decide (leb (v * 10 + (b - 48)) most)
     (λ m.
     let g = digit_range b d in
-    let r : ReadOn l (v * 10 + (b - 48)) (suc at) n next =
-    read_on most l (v * 10 + (b - 48)) (suc at) (omega arith) (rw (d, m) at e) in
+    let r : ReadOn l (v * 10 + (b - 48)) (suc at) f.value f.next =
+    read_on most l (v * 10 + (b - 48)) (suc at) {f = f} (omega arith) (rw (d, m) at e) in
     record {
       digits = b ∷ r.digits;
       text = ap (λ (k : List ℕ). b ∷ k) {y = r.digits ++ drop (length r.digits) l} r.text;
@@ -159,65 +163,50 @@ read_on most (b ∷ l) v at {n} {next} o e =
     })
     (λ m. not_found (rw (d, m) at e)))
     (λ d.
-    let f : Is v at ≡ Is n next = rw d at e in
-    let p : v ≡ n = cc in
-    let q : at ≡ next = cc in
+    let g : found v at ≡ Some f = rw d at e in
+    let p : v ≡ f.value = cc in
+    let q : at ≡ f.next = cc in
     record { digits = []; text = refl; whole = rw (append-nil, p); ends = omega arith })
 
 -- the same from a first digit that is not 0
-first_read : (most at b : ℕ) (l : List ℕ) {n next : ℕ} → 49 ≤ b → b ≤ 57 → digits_from most 0 at (b ∷ l) ≡ Is n next
-    → (ds : List ℕ) × (l ≡ ds ++ drop (length ds) l) × (numeral n ≡ b ∷ ds) × (next ≡ at + length (b ∷ ds))
+first_read : (most at b : ℕ) (l : List ℕ) {f : Found} → 49 ≤ b → b ≤ 57 → digits_from most 0 at (b ∷ l) ≡ Some f
+    → (ds : List ℕ) × (l ≡ ds ++ drop (length ds) l) × (numeral f.value ≡ b ∷ ds) × (f.next ≡ at + length (b ∷ ds))
 unfolding digits_from
-first_read most at b l {n} {next} lo hi e =
+first_read most at b l {f} lo hi e =
     let d = is_digit_lem b (omega arith) hi in
     decide (leb (0 * 10 + (b - 48)) most)
     (λ m.
-    let r : ReadOn l (0 * 10 + (b - 48)) (suc at) n next = read_on most l (0 * 10 + (b - 48)) (suc at) (omega arith) (rw (d, m) at e) in
+    let r : ReadOn l (0 * 10 + (b - 48)) (suc at) f.value f.next =
+    read_on most l (0 * 10 + (b - 48)) (suc at) {f = f} (omega arith) (rw (d, m) at e) in
     let v : 48 + (0 * 10 + (b - 48)) ≡ b = omega arith in
     (r.digits, r.text, r.whole ∙ rw (numeral_one (0 * 10 + (b - 48)) (omega arith), v), omega (arith, r.ends)))
     (λ m. not_found (rw (d, m) at e))
 
 -- a number that was found stands there
-pub number_stands : (most : ℕ) (s : List ℕ) (at : ℕ) {n next : ℕ} → number_at most s at ≡ Is n next → Stands s at next (numeral n)
+pub number_stands : (most : ℕ) (s : List ℕ) (at : ℕ) {f : Found} → number_at most s at ≡ Some f → Stands s at f.next (numeral f.value)
 unfolding number_at
-number_stands most s at {n} {next} e =
+number_stands most s at {f} e =
     decide (eqb (get_or s at 0) 48)
     (λ t.
-    let f : Is 0 (at + 1) ≡ Is n next = rw t at e in
-    let p : 0 ≡ n = cc in
-    let q : at + 1 ≡ next = cc in
+    let g : found 0 (at + 1) ≡ Some f = rw t at e in
+    let p : 0 ≡ f.value = cc in
+    let q : at + 1 ≡ f.next = cc in
     rw (← p, ← q, numeral_one 0 (omega arith)) (byte_stands s at 48 (omega arith) (eqb-true _ _ t)))
-    (λ t. decide (is_digit (get_or s at 0)) (λ d. from_digit (eqb-false _ _ t) (digit_range _ d) (rw (t, d) at e)) (λ d. not_found (rw (t, d) at e)))
+    (λ t. decide (is_ascii_digit (get_or s at 0)) (λ d. from_digit (eqb-false _ _ t) (digit_range _ d) (rw (t, d) at e))
+    (λ d. not_found (rw (t, d) at e)))
   where
     b : ℕ
     b = get_or s at 0
 
-    from_digit : (b ≡ 48 → ⊥) → (48 ≤ b) × (b ≤ 57) → digits_from most 0 at (drop at s) ≡ Is n next → Stands s at next (numeral n)
-    from_digit other g f =
+    from_digit : (b ≡ 48 → ⊥) → (48 ≤ b) × (b ≤ 57) → digits_from most 0 at (drop at s) ≡ Some f → Stands s at f.next (numeral f.value)
+    from_digit other g e =
         let c : drop at s ≡ b ∷ drop (suc at) s = drop-cons s at 0 (byte_inside s at (omega arith)) in
-        let r = first_read most at b (drop (suc at) s) (omega arith) g.1 (rw c at f) in
-        stands_as s at next (numeral n) (b ∷ r.0) (drop (length r.0) (drop (suc at) s)) r.2 r.3
+        let r = first_read most at b (drop (suc at) s) {f = f} (omega arith) g.1 (rw c at e) in
+        stands_as s at f.next (numeral f.value) (b ∷ r.0) (drop (length r.0) (drop (suc at) s)) r.2 r.3
         (c ∙ ap (λ (l : List ℕ). b ∷ l) r.1)
 
--- A numeral, split before its last digit, its last two or its last four.
-pub numeral_last : (n : ℕ) → 10 ≤ n → numeral n ≡ numeral (n / 10) ++ numeral (n % 10)
-numeral_last n h = rw (numeral_one (n % 10) (omega arith)) (numeral_more n h)
-
-pub numeral_pair : (n : ℕ) → 100 ≤ n → numeral n ≡ numeral (n / 100) ++ pair (n % 100)
-numeral_pair n h =
-    let a : n / 10 / 10 ≡ n / 100 = omega arith in
-    let b : n / 10 % 10 ≡ n % 100 / 10 = omega arith in
-    let d : n % 10 ≡ n % 100 % 10 = omega arith in
-    numeral_last n (omega arith) ∙ rw (numeral_last (n / 10) (omega arith), a, b, d) (append_assoc (numeral (n / 100)) (numeral (n % 100 / 10)) (numeral (n % 100 % 10)))
-
-pub numeral_four : (n : ℕ) → 10000 ≤ n → numeral n ≡ numeral (n / 10000) ++ four (n % 10000)
-numeral_four n h =
-    let a : n / 100 / 100 ≡ n / 10000 = omega arith in
-    let b : n / 100 % 100 ≡ n % 10000 / 100 = omega arith in
-    let d : n % 100 ≡ n % 10000 % 100 = omega arith in
-    numeral_pair n (omega arith) ∙ rw (numeral_pair (n / 100) (omega arith), a, b, d) (append_assoc (numeral (n / 10000)) (pair (n % 10000 / 100)) (pair (n % 10000 % 100)))
-
-pub numeral_eight : (n : ℕ) → 100000000 ≤ n → numeral n ≡ numeral (n / 100000000) ++ (four (n / 10000 % 10000) ++ four (n % 10000))
-numeral_eight n h =
-    let a : n / 10000 / 10000 ≡ n / 100000000 = omega arith in
-    numeral_four n (omega arith) ∙ rw (numeral_four (n / 10000) (omega arith), a) (append_assoc (numeral (n / 100000000)) (four (n / 10000 % 10000)) (four (n % 10000)))
+-- std's name for it
+pub numeral_decimal : (n : ℕ) → n < 2 ^ 64 → numeral n ≡ decimal n
+numeral_decimal =
+    by_digits (λ n. n < 2 ^ 64 → numeral n ≡ decimal n) (λ n h w. numeral_one n h ∙ sym (decimal_digit n h))
+    (λ n h ih w. numeral_more n h ∙ rw (ih (omega arith)) (sym (decimal_step n h w)))

@@ -1,4 +1,5 @@
--- Nothing else meets a public function's contract: two results, and two last contents of the row lent, that meet it at the same arguments are the same.
+-- Nothing else meets a public function's contract: two results, and two last contents of the row lent, that meet it at the same
+-- arguments are the same.
 -- Assumes nothing.
 use mathlib.Core.Path.{◌≡◌, refl}
 use Rattle.store.proofs.Only.{Only, same}

@@ -6,7 +6,7 @@ use mathlib.Core.Bool.{false}
 use mathlib.Core.Path.{◌≡◌, refl, sym, ap, ◌∙◌}
 use mathlib.Core.List.{List, [], ◌∷◌, ◌++◌, append_assoc, append-nil, map}
 use lib.Dec.{leb, ltb}
-use lib.ListN.{length, get_or, drop, length-drop, drop_of_length-le}
+use lib.ListN.{length, get_or, drop, length-drop, length-map, drop_of_length-le}
 use borrow.Author.Tests.{le-ltb, lt-ltb, ltb-true, ltb-false, leb-true, leb-false}
 use Rattle.rules.specs.declared.Call.{Call}
 use Rattle.rules.specs.declared.Call.TheVariants.{Ask, Step, Leave}
@@ -16,13 +16,19 @@ use Rattle.casetext.specs.Layout.{InRange, AllInRange, entry, entry_of, line_tex
 use Rattle.casetext.specs.Lines.{line_at, do_line_at}
 use Rattle.casetext.specs.Reading.{Said, before, do_lines, from_line2, from_line3, reading}
 use Rattle.casetext.specs.Reading.Said.{accepted, refused}
-use Rattle.casetext.specs.Promises.{IsCase, AcceptedExactly, OneReading, NoNumberLine, NoDoLine, FirstBad, TooMany, Cause, RefusedExactly, EntriesMade}
+use Rattle.casetext.specs.Promises.{IsCase, NoNumberLine, NoDoLine, FirstBad, TooMany, Cause}
+use Rattle.casetext.specs.Promises.{AcceptedExactly, OneReading, RefusedExactly, EntriesMade}
 use Rattle.casetext.specs.Promises.FirstBad.{line_1, line_2, line_3_on}
 use Rattle.casetext.specs.Promises.Cause.{long, broken, many}
-use Rattle.casetext.specs.declared.Found.{Found}
-use Rattle.casetext.specs.declared.Found.TheVariants.{Is, Broken}
+use Rattle.casetext.specs.declared.cursor.Found.{Found}
 use borrow.Table.Steps.{cases as decide}
-use Rattle.casetext.proofs.Finding.{not_found}
+use Rattle.std.specs.Prelude.{Option, None, Some}
+use Rattle.rules.specs.Answers.{refusal_number}
+use Rattle.rules.specs.declared.Refusal.{Refusal}
+use Rattle.rules.specs.declared.Refusal.TheVariants.{TooLong, BadLine, TooManyLines}
+use Rattle.casetext.specs.Pieces.{found}
+use Rattle.casetext.proofs.Numbered.{same_refusal}
+use Rattle.casetext.proofs.Finding.{not_found, none_found, same_found}
 use Rattle.casetext.proofs.Gathering.{lines_end, lines_broken, lines_full}
 use Rattle.casetext.proofs.Stands.{Stands, stands_at, rest_at}
 use Rattle.casetext.proofs.Turns.{line_found, line_stands, do_found, do_stands}
@@ -30,23 +36,17 @@ use Rattle.casetext.proofs.Texts.{inside, calls_read, Run, run}
 use Rattle.casetext.proofs.Texts.Run.{whole, bad, many as too_many}
 
 -- A reading is of one kind only.
-pub not_refused {ℓ} : {A : Type ℓ} {n k number line : ℕ} {es : List ℕ} → accepted n k es ≡ refused number line → A
-not_refused e = let z : ◌≡◌ {A = ℕ} 0 1 = cc in absurd (omega arith)
+pub not_refused {ℓ} : {A : Type ℓ} {n k line : ℕ} {r : Refusal} {es : List ℕ} → accepted n k es ≡ refused r line → A
+not_refused e = absurd cc
 
 -- Where no line fits, none is found.
-no_line : (w : List ℕ) (s : List ℕ) (at : ℕ) → NoNumberLine w (drop at s) → line_at w 4294967295 s at ≡ Broken
-no_line w s at h = go (line_at w 4294967295 s at) refl
-  where
-    go : (f : Found) → line_at w 4294967295 s at ≡ f → f ≡ Broken
-    go Broken e = refl
-    go (Is n next) e = let r = line_stands w 4294967295 s at e in absurd (h n (drop next s) r.0 r.1.text)
+no_line : (w : List ℕ) (s : List ℕ) (at : ℕ) → NoNumberLine w (drop at s) → line_at w 4294967295 s at ≡ None
+no_line w s at h =
+    none_found (line_at w 4294967295 s at)
+    (λ f e. let r = line_stands w 4294967295 s at {f = f} e in h f.value (drop f.next s) r.0 r.1.text)
 
-no_do_line : (s : List ℕ) (at : ℕ) → NoDoLine (drop at s) → do_line_at s at ≡ Broken
-no_do_line s at h = go (do_line_at s at) refl
-  where
-    go : (f : Found) → do_line_at s at ≡ f → f ≡ Broken
-    go Broken e = refl
-    go (Is v next) e = let r = do_stands s at e in absurd (h r.0 (drop next s) r.1 r.3.text)
+no_do_line : (s : List ℕ) (at : ℕ) → NoDoLine (drop at s) → do_line_at s at ≡ None
+no_do_line s at h = none_found (do_line_at s at) (λ f e. let r = do_stands s at {f = f} e in h r.0 (drop f.next s) r.1 r.3.text)
 
 -- where something is left, the place is before the end
 before_end : (s : List ℕ) (at : ℕ) {rest : List ℕ} → drop at s ≡ rest → (rest ≡ [] → ⊥) → at < length s
@@ -61,8 +61,8 @@ at_end s at e = omega (arith, sym (length-drop at s) ∙ ap length e)
 record Head (s : List ℕ) (n k : ℕ) (rest : List ℕ) : Type 0 where
   pub second : ℕ
   pub third : ℕ
-  pub found_1 : line_at (ascii "claimants=") 4294967295 s 0 ≡ Is n second
-  pub found_2 : line_at (ascii "ceiling=") 4294967295 s second ≡ Is k third
+  pub found_1 : line_at (ascii "claimants=") 4294967295 s 0 ≡ found n second
+  pub found_2 : line_at (ascii "ceiling=") 4294967295 s second ≡ found k third
   pub left : drop third s ≡ rest
 
 head : (s : List ℕ) (n k : ℕ) (rest : List ℕ) → n ≤ 4294967295 → k ≤ 4294967295 → s ≡ head_text n k ++ rest → Head s n k rest
@@ -80,7 +80,7 @@ head s n k rest hn hk e =
     }
 
 head_read : {s : List ℕ} {n k : ℕ} {rest : List ℕ} → length s ≤ 32768 → (h : Head s n k rest) → reading s ≡ do_lines n k 2048 s h.third 3
-unfolding reading from_line2 from_line3
+unfolding reading
 head_read {s} l h = rw (le-ltb 32768 (length s) l, h.found_1, h.found_2)
 
 -- Do lines to the end of the text, and nothing else, are all that is read.
@@ -100,13 +100,14 @@ case_read s n k es c =
     head_read c.short h ∙ calls_whole n k s c.calls 2048 h.third 3 w.ranged c.few h.left ∙ ap (accepted n k) (sym c.says)
 
 -- A text with a fault is refused for it.
-bad_read : (s : List ℕ) (line : ℕ) → length s ≤ 32768 → FirstBad s line → reading s ≡ refused 12 line
-unfolding reading from_line2 from_line3 before
+bad_read : (s : List ℕ) (line : ℕ) → length s ≤ 32768 → FirstBad s line → reading s ≡ refused BadLine line
+unfolding reading before
 bad_read s line l (line_1 e h) = rw (le-ltb 32768 (length s) l, no_line (ascii "claimants=") s 0 h, e)
 bad_read s line l (line_2 n rest e hn t h) =
     let a = line_text (ascii "claimants=") n in
     let q = rest_at s 0 a rest t in
-    rw (le-ltb 32768 (length s) l, line_found (ascii "claimants=") hn (stands_at s 0 a rest t), no_line (ascii "ceiling=") s (0 + length a) (rw q h), e)
+    let f = line_found (ascii "claimants=") hn (stands_at s 0 a rest t) in
+    rw (le-ltb 32768 (length s) l, f, no_line (ascii "ceiling=") s (0 + length a) (rw q h), e)
 bad_read s line l (line_3_on n k ts rest e hn hk h m t o d) =
     let g = head s n k (do_texts ts ++ rest) hn hk (t ∙ append_assoc (head_text n k) (do_texts ts) rest) in
     let at = g.third + length (do_texts ts) in
@@ -114,12 +115,13 @@ bad_read s line l (line_3_on n k ts rest e hn hk h m t o d) =
     head_read l g ∙ calls_read n k s ts 2048 g.third 3 rest h m g.left
     ∙ rw (lines_broken n k s at (3 + length ts) (before_end s at q o) (2048 - length ts) (no_do_line s at (rw q d)), e)
 
-many_read : (s : List ℕ) (line : ℕ) → length s ≤ 32768 → TooMany s line → reading s ≡ refused 13 line
+many_read : (s : List ℕ) (line : ℕ) → length s ≤ 32768 → TooMany s line → reading s ≡ refused TooManyLines line
 unfolding before
 many_read s line l m =
     let ts = m.calls in
     let rest = do_text m.more ++ m.rest in
-    let g = head s m.claimants m.ceiling (do_texts ts ++ rest) m.first m.second (m.text ∙ append_assoc (head_text m.claimants m.ceiling) (do_texts ts) rest) in
+    let t = m.text ∙ append_assoc (head_text m.claimants m.ceiling) (do_texts ts) rest in
+    let g = head s m.claimants m.ceiling (do_texts ts ++ rest) m.first m.second t in
     let at = g.third + length (do_texts ts) in
     let q = rest_at s g.third (do_texts ts) rest g.left in
     let z : 2048 - length ts ≡ 0 = omega (arith, m.many) in
@@ -127,16 +129,17 @@ many_read s line l m =
     head_read l g ∙ calls_read m.claimants m.ceiling s ts 2048 g.third 3 rest m.ranged (omega (arith, m.many)) g.left
     ∙ rw (z, lines_full m.claimants m.ceiling s at (3 + length ts) (inside s at _ _ q) f, m.many, m.at)
 
-cause_read : (s : List ℕ) (number line : ℕ) → Cause s number line → reading s ≡ refused number line
+-- A text with a cause is refused for it.
+pub cause_read : {s : List ℕ} {number line : ℕ} → Cause s number line → (r : Refusal) × (refusal_number r ≡ number) × (reading s ≡ refused r line)
 unfolding reading
-cause_read s number line (long e f h) = rw (lt-ltb 32768 (length s) h, e, f)
-cause_read s number line (broken e l b) = rw e (bad_read s line l b)
-cause_read s number line (many e l m) = rw e (many_read s line l m)
+cause_read {s} (long e f h) = (TooLong, sym e, rw (lt-ltb 32768 (length s) h, f))
+cause_read {s} {number} {line} (broken e l b) = (BadLine, sym e, bad_read s line l b)
+cause_read {s} {number} {line} (many e l m) = (TooManyLines, sym e, many_read s line l m)
 
 -- What a reading comes to, and why.
 data Verdict (s : List ℕ) (r : Said) : Type 0 where
   good : (n k : ℕ) (es : List ℕ) → r ≡ accepted n k es → IsCase s n k es → Verdict s r
-  fault : (number line : ℕ) → r ≡ refused number line → Cause s number line → Verdict s r
+  fault : (why : Refusal) (line : ℕ) → r ≡ refused why line → Cause s (refusal_number why) line → Verdict s r
 
 module _ (s : List ℕ) (l : length s ≤ 32768) where
   of_run : (n k at : ℕ) (r : Said) → n ≤ 4294967295 → k ≤ 4294967295 → s ≡ head_text n k ++ drop at s → Run n k s 2048 at 3 r → Verdict s r
@@ -149,12 +152,12 @@ module _ (s : List ℕ) (l : length s ≤ 32768) where
         says = refl;
       })
   of_run n k at r hn hk t (bad ts rest h m e o d q) =
-      fault 12 (3 + length ts) q
+      fault BadLine (3 + length ts) q
       (broken refl l
       (line_3_on n k ts rest refl hn hk h m
       (t ∙ ap (λ (x : List ℕ). head_text n k ++ x) e ∙ sym (append_assoc (head_text n k) (do_texts ts) rest)) o d))
   of_run n k at r hn hk t (too_many ts u rest h g m e q) =
-      fault 13 (3 + length ts) q
+      fault TooManyLines (3 + length ts) q
       (many refl l (record {
         claimants = n;
         ceiling = k;
@@ -171,37 +174,35 @@ module _ (s : List ℕ) (l : length s ≤ 32768) where
       }))
 
   from_2 : (n at : ℕ) → n ≤ 4294967295 → Stands s 0 at (line_text (ascii "claimants=") n)
-      → (f : Found) → line_at (ascii "ceiling=") 4294967295 s at ≡ f → Verdict s (from_line3 s n f)
-  unfolding from_line3
-  from_2 n at hn p Broken e =
-      fault 12 2 refl
+      → (o : Option Found) → line_at (ascii "ceiling=") 4294967295 s at ≡ o → Verdict s (from_line3 s n o)
+  from_2 n at hn p None e =
+      fault BadLine 2 refl
       (broken refl l
       (line_2 n (drop at s) refl hn p.text
       (λ k after h z. not_found (sym e ∙ line_found (ascii "ceiling=") h (stands_at s at (line_text (ascii "ceiling=") k) after z)))))
-  from_2 n at hn p (Is k next) e =
-      let r = line_stands (ascii "ceiling=") 4294967295 s at e in
+  from_2 n at hn p (Some f) e =
+      let r = line_stands (ascii "ceiling=") 4294967295 s at {f = f} e in
       let a = line_text (ascii "claimants=") n in
-      let b = line_text (ascii "ceiling=") k in
-      of_run n k next _ hn r.0
-      (p.text ∙ ap (λ (x : List ℕ). a ++ x) r.1.text ∙ sym (append_assoc a b (drop next s)))
-      (run n k s 2048 next 3)
+      let b = line_text (ascii "ceiling=") f.value in
+      of_run n f.value f.next _ hn r.0
+      (p.text ∙ ap (λ (x : List ℕ). a ++ x) r.1.text ∙ sym (append_assoc a b (drop f.next s)))
+      (run n f.value s 2048 f.next 3)
 
-  from_1 : (f : Found) → line_at (ascii "claimants=") 4294967295 s 0 ≡ f → Verdict s (from_line2 s f)
-  unfolding from_line2
-  from_1 Broken e =
-      fault 12 1 refl
+  from_1 : (o : Option Found) → line_at (ascii "claimants=") 4294967295 s 0 ≡ o → Verdict s (from_line2 s o)
+  from_1 None e =
+      fault BadLine 1 refl
       (broken refl l
       (line_1 refl
       (λ n after h z. not_found (sym e ∙ line_found (ascii "claimants=") h (stands_at s 0 (line_text (ascii "claimants=") n) after z)))))
-  from_1 (Is n next) e =
-      let r = line_stands (ascii "claimants=") 4294967295 s 0 e in
-      from_2 n next r.0 r.1 (line_at (ascii "ceiling=") 4294967295 s next) refl
+  from_1 (Some f) e =
+      let r = line_stands (ascii "claimants=") 4294967295 s 0 {f = f} e in
+      from_2 f.value f.next r.0 r.1 (line_at (ascii "ceiling=") 4294967295 s f.next) refl
 
 verdict : (s : List ℕ) → Verdict s (reading s)
 unfolding reading
 verdict s =
     decide (ltb 32768 (length s))
-    (λ t. rw t (fault 11 0 refl (long refl refl (ltb-true _ _ t))))
+    (λ t. rw t (fault TooLong 0 refl (long refl refl (ltb-true _ _ t))))
     (λ t. rw t (from_1 s (ltb-false _ _ t) (line_at (ascii "claimants=") 4294967295 s 0) refl))
 
 pub accepted_exactly : AcceptedExactly
@@ -213,17 +214,23 @@ accepted_exactly s n k es = (λ e. go e (verdict s), case_read s n k es)
         let b : k' ≡ k = cc in
         let d : es' ≡ es = cc in
         rw (a, b, d) at c
-    go e (fault number line q c) = not_refused (sym e ∙ q)
+    go e (fault why line q c) = not_refused (sym e ∙ q)
 
 pub refused_exactly : RefusedExactly
-refused_exactly s number line = (λ e. go e (verdict s), cause_read s number line)
+refused_exactly s r line = (
+  (λ e. go e (verdict s)),
+  λ c. let q = cause_read c in let e : q.0 ≡ r = same_refusal q.0 r q.1 in rw e at q.2,
+)
   where
-    go : reading s ≡ refused number line → Verdict s (reading s) → Cause s number line
+    go : reading s ≡ refused r line → Verdict s (reading s) → Cause s (refusal_number r) line
     go e (good n k es q c) = not_refused (sym q ∙ e)
-    go e (fault number' line' q c) =
-        let a : number' ≡ number = cc in
-        let b : line' ≡ line = cc in
+    go e (fault why at q c) =
+        let a : why ≡ r = cc in
+        let b : at ≡ line = cc in
         rw (a, b) at c
+
+pub case_few : {s : List ℕ} {n k : ℕ} {es : List ℕ} → IsCase s n k es → length es ≤ 2048
+case_few c = omega (arith, c.few, ap length c.says ∙ length-map c.calls entry_of)
 
 -- An entry says which call it is of.
 one_call : (t u : Call) → InRange t → InRange u → entry_of t ≡ entry_of u → t ≡ u
@@ -244,8 +251,8 @@ one_call (Leave w) (Leave v) h g e = let a : w ≡ v = omega arith in rw a
 one_schedule : (ts us : List Call) → AllInRange ts → AllInRange us → map entry_of ts ≡ map entry_of us → ts ≡ us
 unfolding AllInRange
 one_schedule [] [] h g e = refl
-one_schedule [] (u ∷ us) h g e = let z : ◌≡◌ {A = ℕ} 0 1 = cc in absurd (omega arith)
-one_schedule (t ∷ ts) [] h g e = let z : ◌≡◌ {A = ℕ} 0 1 = cc in absurd (omega arith)
+one_schedule [] (u ∷ us) h g e = absurd cc
+one_schedule (t ∷ ts) [] h g e = absurd cc
 one_schedule (t ∷ ts) (u ∷ us) h g e =
     let a : entry_of t ≡ entry_of u = cc in
     let b : map entry_of ts ≡ map entry_of us = cc in
@@ -255,15 +262,13 @@ pub one_reading : OneReading
 one_reading s n k n' k' ts ts' w w' =
     let h = head s n k (do_texts ts) w.first w.second w.text in
     let g = head s n' k' (do_texts ts') w'.first w'.second w'.text in
-    let a : Is n h.second ≡ Is n' g.second = sym h.found_1 ∙ g.found_1 in
-    let b : h.second ≡ g.second = cc in
-    let c : Is k h.third ≡ Is k' g.third = sym h.found_2 ∙ rw b g.found_2 in
-    let d : h.third ≡ g.third = cc in
+    let a : (n ≡ n') × (h.second ≡ g.second) = same_found (sym h.found_1 ∙ g.found_1) in
+    let b : (k ≡ k') × (h.third ≡ g.third) = same_found (sym h.found_2 ∙ rw a.1 g.found_2) in
     let places = length ts + length ts' in
     let p = calls_whole 0 0 s ts places h.third 3 w.ranged (omega arith) h.left in
-    let q = calls_whole 0 0 s ts' places h.third 3 w'.ranged (omega arith) (rw d g.left) in
+    let q = calls_whole 0 0 s ts' places h.third 3 w'.ranged (omega arith) (rw b.1 g.left) in
     let r : accepted 0 0 (map entry_of ts) ≡ accepted 0 0 (map entry_of ts') = sym p ∙ q in
-    (cc, cc, one_schedule ts ts' w.ranged w'.ranged (cc))
+    (a.0, b.0, one_schedule ts ts' w.ranged w'.ranged (cc))
 
 -- The entry of a call makes that call.
 abbrev Makes : (entry : ℕ) → Call → Type 0

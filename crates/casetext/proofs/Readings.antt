@@ -14,16 +14,8 @@ use Rattle.casetext.specs.Reading.Said.{accepted, refused}
 use Rattle.casetext.specs.Answers.{reading_number, reading_line}
 use Rattle.casetext.specs.Promises.{IsCase, Cause, ReaderCause, ReaderRefuses, RefusedReading, AcceptedReading, ReadWithin}
 use Rattle.casetext.specs.Promises.ReaderCause.{short, of_text}
-use Rattle.casetext.specs.declared.Reading.TheVariants.{Case}
-use Rattle.casetext.proofs.Lengths.{case_few}
-use Rattle.casetext.proofs.Promises.{not_refused, accepted_exactly, refused_exactly}
-
--- Of a said thing: refused so, by its numbers, or by itself.
-told_so : (r : Said) (number line : ℕ) → 1 ≤ number → (reading_number (told r) ≡ number) × (reading_line (told r) ≡ line) ↔ r ≡ refused number line
-unfolding told
-told_so (accepted n k es) number line h =
-    ((λ q. absurd (omega arith)), λ q. let z : ◌≡◌ {A = ℕ} 0 1 = cc in absurd (omega arith))
-told_so (refused a b) number line h = ((λ q. rw (q.0, q.1)), λ q. (cc, cc))
+use Rattle.std.specs.Prelude.{Ok}
+use Rattle.casetext.proofs.Promises.{not_refused, case_few, cause_read, accepted_exactly, refused_exactly}
 
 -- What a cause says where the row is too short, and where it is not.
 row_short : {row s : List ℕ} {number line : ℕ} → length row < 2048 → ReaderCause row s number line → (number ≡ 10) × (line ≡ 0)
@@ -34,8 +26,17 @@ row_long : {row s : List ℕ} {number line : ℕ} → 2048 ≤ length row → Re
 row_long l (short e f g) = absurd (omega arith)
 row_long l (of_text g c) = c
 
+-- Of a text: refused so just for its cause.
+text_refuses : (s : List ℕ) (number line : ℕ) → 1 ≤ number
+    → (reading_number (told (reading s)) ≡ number) × (reading_line (told (reading s)) ≡ line) ↔ Cause s number line
+text_refuses s number line h = ((λ q. go (reading s) refl q), λ c. let r = cause_read c in rw r.2 (r.1, refl))
+  where
+    go : (r : Said) → reading s ≡ r → (reading_number (told r) ≡ number) × (reading_line (told r) ≡ line) → Cause s number line
+    go (accepted n k es) e q = absurd (omega arith)
+    go (refused why at) e q = rw (q.0, q.1) at ((refused_exactly s why at).0 e)
+
 pub reader_refuses : ReaderRefuses
-unfolding read_into told
+unfolding read_into
 reader_refuses row s number line h =
     decide (ltb (length row) 2048)
     (λ t.
@@ -43,12 +44,10 @@ reader_refuses row s number line h =
     rw t ((λ q. short (sym q.0) (sym q.1) l), λ c. let e = row_short l c in (sym e.0, sym e.1)))
     (λ t.
     let l = ltb-false (length row) 2048 t in
-    let e = told_so (reading s) number line h in
-    let f = refused_exactly s number line in
-    rw t ((λ q. of_text l (f.0 (e.0 q))), λ c. e.1 (f.1 (row_long l c))))
+    let e = text_refuses s number line h in
+    rw t ((λ q. of_text l (e.0 q)), λ c. e.1 (row_long l c)))
 
 pub refused_reading : RefusedReading
-unfolding told row_after
 refused_reading row s = unchanged (read_into row s)
   where
     unchanged : (r : Said) → reading_number (told r) ≢ 0 → row_after r row ≡ row
@@ -56,7 +55,7 @@ refused_reading row s = unchanged (read_into row s)
     unchanged (refused number line) h = refl
 
 pub accepted_reading : AcceptedReading
-unfolding read_into told row_after
+unfolding read_into
 accepted_reading row s n k es l c =
     rw (le-ltb (length row) 2048 l, (accepted_exactly s n k es).1 c) (refl, refl, refl)
 
@@ -69,11 +68,10 @@ read_case row s n k es e =
     (λ t. (accepted_exactly s n k es).0 (rw t at e))
 
 pub read_within : ReadWithin
-unfolding told
-read_within row s n k count e = go (read_into row s) refl e
+read_within row s c e = go (read_into row s) refl e
   where
-    go : (r : Said) → read_into row s ≡ r → told r ≡ Case n k count → count ≤ 2048
+    go : (r : Said) → read_into row s ≡ r → told r ≡ Ok c → c.count ≤ 2048
     go (accepted a b es) q t =
-        let z : length es ≡ count = cc in
+        let z : length es ≡ c.count = cc in
         omega (arith, case_few (read_case row s a b es q))
-    go (refused number line) q t = let z : ◌≡◌ {A = ℕ} 0 1 = cc in absurd (omega arith)
+    go (refused r line) q t = absurd cc

@@ -1,31 +1,31 @@
 -- What a trial's answer, and what the reader's answer, tell of the text to be printed.
 -- Assumes nothing.
 use Prim.Native.Nat.{ℕ, ◌+◌, ◌*◌, ◌≤◌}
-use native.Mathlib.Nat.{zero-add}
 use native.Mathlib.Omega.{arith}
-use mathlib.Core.Path.{◌≡◌, refl, ap, ◌∙◌}
+use mathlib.Core.Path.{◌≡◌, refl, sym, ap, ◌∙◌}
 use mathlib.Core.List.{List, [], ◌∷◌, ◌++◌}
-use lib.Dec.{eqb, ltb}
-use lib.ListN.{length, take, drop}
+use lib.Dec.{ltb}
+use lib.ListN.{length, drop}
 use borrow.Author.Tests.{le-ltb, ltb-false}
 use borrow.Table.Steps.{cases as decide}
-use Rattle.rules.specs.Tests.{first}
+use Rattle.std.specs.Prelude.{None, Some, Ok, Err}
+use Rattle.rules.specs.Tests.{Verdict, first}
+use Rattle.rules.specs.Answers.{refusal_number}
 use Rattle.rules.specs.Rules.{open_refusals}
 use Rattle.rules.specs.Tables.{Table, opened}
+use Rattle.rules.specs.declared.Refusal.{Refusal}
 use Rattle.rules.specs.declared.Terms.{Terms}
-use Rattle.rules.proofs.Laws.{opening_refuses}
 use Rattle.store.specs.Schedules.{decoded, entered}
 use Rattle.store.specs.Trials.{terms_of, traced, trial_refusal, trial_left, trial_outcome}
-use Rattle.store.specs.declared.Outcome.TheVariants.{Done, Refused as OpeningRefused}
 use Rattle.casetext.specs.Reading.{Said, reading, told, Drafted}
 use Rattle.casetext.specs.Reading.Said.{accepted, refused}
-use Rattle.casetext.specs.Writing.{Room, Wrote}
+use Rattle.casetext.specs.Writing.{Filled}
 use Rattle.casetext.specs.Report.{entry_text, entries_text, refusal_text, run_text, opened_text, said_text, printed, reported, report_row}
-use Rattle.casetext.specs.declared.Reading.TheVariants.{Case, Refused}
-use Rattle.casetext.specs.declared.Reported.TheVariants.{Printed, Short}
+use Rattle.casetext.specs.declared.Case.{Case}
+use Rattle.casetext.specs.declared.Fault.{Fault}
 use Rattle.casetext.specs.Promises.{PrintedWithin}
-use Rattle.casetext.proofs.Promises.{accepted_exactly, refused_exactly}
-use Rattle.casetext.proofs.Lengths.{cause_small, case_few, report_fits}
+use Rattle.casetext.proofs.Promises.{case_few, accepted_exactly, refused_exactly}
+use Rattle.casetext.proofs.Lengths.{cause_small, report_fits}
 
 -- Numbers past those that the entries left are not printed.
 entries_of : (k : Terms) (es : List ℕ) (t : Table) (rest : List ℕ) (number : ℕ)
@@ -34,87 +34,62 @@ unfolding entries_text traced entry_text
 entries_of k [] t rest number = refl
 entries_of k (e ∷ es) t rest number = rw (entries_of k es (entered k (decoded e) t).table rest (number + 1))
 
+-- What a trial tells, in a row with five places for each entry.
 module _ (n k : ℕ) (es held : List ℕ) (room : 5 * length es ≤ length held) where
-  -- a row with five places for each entry is not refused for its length
-  same_refusal : trial_refusal n (terms_of k) (length es) (length held) ≡ first (open_refusals n (terms_of k))
-  unfolding trial_refusal first
+  -- such a row is not refused for its length
+  same_refusal : trial_outcome n k es held ≡ first (open_refusals n (terms_of k))
+  unfolding trial_outcome trial_refusal first
   same_refusal = rw (le-ltb (length held) (5 * length es) room)
 
-  pub done_text : trial_outcome n k es held ≡ Done → said_text (accepted n k es) ≡ run_text es (trial_left n k es held)
-  unfolding trial_outcome trial_left said_text opened_text run_text
-  done_text e =
-      let r = first (open_refusals n (terms_of k)) in
-      decide (eqb r 0)
-      (λ t. rw (same_refusal, t, entries_of (terms_of k) es (opened n) (drop (5 * length es) held) 1))
-      (λ t.
-      let f : OpeningRefused r ≡ Done = rw (same_refusal, t) at e in
-      let z : ◌≡◌ {A = ℕ} 0 1 = cc in
-      absurd (omega arith))
+  module _ {left : List ℕ} {outcome : Verdict} (told : (left ≡ trial_left n k es held) × (outcome ≡ trial_outcome n k es held)) where
+    pub done_text : outcome ≡ Ok tt → said_text (accepted n k es) ≡ run_text es left
+    unfolding trial_outcome trial_left said_text opened_text run_text
+    done_text e =
+        let f : first (open_refusals n (terms_of k)) ≡ Ok tt = sym same_refusal ∙ sym told.1 ∙ e in
+        rw (told.0, same_refusal, f, entries_of (terms_of k) es (opened n) (drop (5 * length es) held) 1)
 
-  pub refused_text : {number : ℕ} → trial_outcome n k es held ≡ OpeningRefused number
-      → (said_text (accepted n k es) ≡ refusal_text number number) × (number ≤ 9)
-  unfolding trial_outcome said_text opened_text
-  refused_text {number} e =
-      let r = first (open_refusals n (terms_of k)) in
-      let small = opening_refuses n (terms_of k) in
-      decide (eqb r 0)
-      (λ t.
-      let f : Done ≡ OpeningRefused number = rw (same_refusal, t) at e in
-      let z : ◌≡◌ {A = ℕ} 0 1 = cc in
-      absurd (omega arith))
-      (λ t.
-      let f : OpeningRefused r ≡ OpeningRefused number = rw (same_refusal, t) at e in
-      let q : r ≡ number = cc in
-      (rw (t, q), omega arith))
+    pub refused_text : {r : Refusal} → outcome ≡ Err r → said_text (accepted n k es) ≡ refusal_text (refusal_number r) (refusal_number r)
+    unfolding said_text opened_text
+    refused_text e = rw (sym same_refusal ∙ sym told.1 ∙ e)
 
 -- What the reader told is what is printed.
-told_refused : (r : Said) {number line : ℕ} → told r ≡ Refused number line → r ≡ refused number line
-unfolding told
-told_refused (accepted n k es) e = let z : ◌≡◌ {A = ℕ} 0 1 = cc in absurd (omega arith)
-told_refused (refused number line) e = cc
+told_refused : (r : Said) {f : Fault} → told r ≡ Err f → r ≡ refused f.refusal f.line
+told_refused (accepted n k es) e = absurd cc
+told_refused (refused q line) {f} e = let g : record { refusal = q; line = line } ≡ f = cc in rw (← g) refl
 
-told_case : (r : Said) {n k count : ℕ} (draft : List ℕ) → told r ≡ Case n k count → Drafted r draft → r ≡ accepted n k (take count draft)
-unfolding told Drafted
-told_case (accepted a b es) {n} {k} {count} draft e d =
-    let x : a ≡ n = cc in
-    let y : b ≡ k = cc in
-    let z : length es ≡ count = cc in
-    rw (← x, ← y, ← z, d)
-told_case (refused number line) draft e d = let z : ◌≡◌ {A = ℕ} 0 1 = cc in absurd (omega arith)
+told_case : (r : Said) {c : Case} {draft : List ℕ} → told r ≡ Ok c → Drafted r draft → r ≡ accepted c.claimants c.ceiling draft
+told_case (accepted n k es) {c} e d = let g : record { claimants = n; ceiling = k; count = length es } ≡ c = cc in rw (← g, d) refl
+told_case (refused q line) e d = absurd cc
 
-pub printed_refused : (s : List ℕ) {number line : ℕ} → told (reading s) ≡ Refused number line
-    → (printed s ≡ refusal_text number line) × (line ≤ 2051)
-unfolding printed said_text
-printed_refused s {number} {line} e =
-    let f = told_refused (reading s) e in
-    (rw f, (cause_small ((refused_exactly s number line).0 f)).1)
+module _ (s : List ℕ) where
+  pub printed_refused : {f : Fault} → told (reading s) ≡ Err f → (printed s ≡ refusal_text (refusal_number f.refusal) f.line) × (f.line ≤ 2051)
+  unfolding printed said_text
+  printed_refused {f} e =
+      let r = told_refused (reading s) e in
+      (rw r, (cause_small ((refused_exactly s f.refusal f.line).0 r)).1)
 
-pub printed_case : (s : List ℕ) {n k count : ℕ} (draft : List ℕ) → told (reading s) ≡ Case n k count → Drafted (reading s) draft
-    → (printed s ≡ said_text (accepted n k (take count draft))) × (length (take count draft) ≤ 2048)
-unfolding printed
-printed_case s {n} {k} {count} draft e d =
-    let f = told_case (reading s) draft e d in
-    (ap said_text f, case_few ((accepted_exactly s n k (take count draft)).0 f))
+  pub printed_case : {c : Case} (draft : List ℕ) → told (reading s) ≡ Ok c → Drafted (reading s) draft
+      → (printed s ≡ said_text (accepted c.claimants c.ceiling draft)) × (length draft ≤ 2048)
+  unfolding printed
+  printed_case {c} draft e d =
+      let r = told_case (reading s) e d in
+      (ap said_text r, case_few ((accepted_exactly s c.claimants c.ceiling draft).0 r))
 
-module _ (s : List ℕ) {out w : List ℕ} (p : printed s ≡ w) (long : 153609 ≤ length out) where
-  pub room_for : Room out 0 w
-  room_for = record { fits = omega (arith, rw p at (report_fits s)) }
+  module _ (out : List ℕ) {w : List ℕ} (e : printed s ≡ w) (long : 153609 ≤ length out) where
+    pub room_for : length w ≤ length out
+    room_for = omega (arith, rw e at (report_fits s))
 
-  pub report_is : {next : ℕ} {after : List ℕ} → Wrote out 0 w next after → (Printed next ≡ reported out s) × (after ≡ report_row out s)
-  unfolding reported report_row
-  report_is q =
-      rw (le-ltb (length out) 153609 long, p) (ap Printed (q.ends ∙ zero-add (length w)), q.row)
+    pub report_is : {bytes : ℕ} {after : List ℕ} → Filled out w bytes after → (Some bytes ≡ reported out s) × (after ≡ report_row out s)
+    unfolding reported report_row
+    report_is f = rw (le-ltb (length out) 153609 long, e) (ap Some f.ends, f.row)
 
 -- For callers that hand on what was printed.
 pub printed_within : PrintedWithin
 unfolding reported
 printed_within out s bytes e =
     decide (ltb (length out) 153609)
+    (λ t. let f : None ≡ Some bytes = rw t at e in absurd cc)
     (λ t.
-    let f : Short ≡ Printed bytes = rw t at e in
-    let z : ◌≡◌ {A = ℕ} 0 1 = cc in
-    absurd (omega arith))
-    (λ t.
-    let f : Printed (length (printed s)) ≡ Printed bytes = rw t at e in
+    let f : Some (length (printed s)) ≡ Some bytes = rw t at e in
     let q : length (printed s) ≡ bytes = cc in
     omega (arith, report_fits s, ltb-false (length out) 153609 t))

@@ -17,13 +17,16 @@ use Rattle.casetext.specs.Layout.{InRange, AllInRange, entry_of}
 use Rattle.casetext.specs.Answers.{written_number, written_bytes}
 use Rattle.casetext.specs.Promises.{IsCase}
 use Rattle.casetext.specs.Written.{some_nine, schedule_text, write_refusal, written, written_row}
-use Rattle.casetext.specs.RoundTrips.{ReadsBack, WritesBack, SomeNine, NoNine, WriterCause, WriterRefuses, RefusedWriting, AcceptedWriting, WrittenWithin}
+use Rattle.casetext.specs.RoundTrips.{ReadsBack, WritesBack, SomeNine, NoNine, WriterCause}
+use Rattle.casetext.specs.RoundTrips.{WriterRefuses, RefusedWriting, AcceptedWriting, WrittenWithin}
 use Rattle.casetext.specs.RoundTrips.WriterCause.{barred, many, long, short}
-use Rattle.casetext.specs.declared.Written.TheVariants.{Bytes, Refused}
+use Rattle.std.specs.Prelude.{Ok, Err}
+use Rattle.rules.specs.Answers.{refusal_number}
+use Rattle.rules.specs.declared.Refusal.{Refusal}
+use Rattle.rules.specs.declared.Refusal.TheVariants.{NoCall, TooLong, TooManyLines}
 use Rattle.casetext.proofs.Finding.{true_not_false}
 use Rattle.casetext.proofs.Gathering.{room_for_all}
-use Rattle.casetext.proofs.Promises.{accepted_exactly, made}
-use Rattle.casetext.proofs.Lengths.{case_few}
+use Rattle.casetext.proofs.Promises.{accepted_exactly, case_few, made}
 use Rattle.casetext.proofs.Readings.{read_case}
 use Rattle.casetext.proofs.Schedules.{some_nine_lem, no_nine}
 use Rattle.casetext.proofs.Refusals.{refused_as, written_as, refuses_9, refuses_13, refuses_11_long, refuses_11_short, refuses_none}
@@ -54,7 +57,7 @@ entry_back e h =
     rw (a, b) (omega arith, omega (arith, z, m, o, f.0))))
 
 schedule_back : (es : List ℕ) → some_nine es ≡ false → AllInRange (map call_of es) × (map entry_of (map call_of es) ≡ es)
-unfolding AllInRange some_nine
+unfolding AllInRange
 schedule_back [] h = (tt, refl)
 schedule_back (e ∷ es) h =
     decide (is_nine e) (λ t. true_not_false (rw t at h))
@@ -65,7 +68,7 @@ schedule_back (e ∷ es) h =
 
 -- .. and calls that a text says are those of its entries, none of which refusal 9 names.
 calls_back : (ts : List Call) → AllInRange ts → (some_nine (map entry_of ts) ≡ false) × (map call_of (map entry_of ts) ≡ ts)
-unfolding AllInRange some_nine
+unfolding AllInRange
 calls_back [] h = (refl, refl)
 calls_back (t ∷ ts) h =
     let a = made t h.0 in
@@ -102,26 +105,34 @@ verdict n k es lent =
     decide (ltb (length lent) (length (schedule_text n k es))) (λ w. fault 11 (short refl none few (ltb-true _ _ w)))
     (λ w. whole (record { none = t; few = few; fits = ltb-false _ _ v; room = ltb-false _ _ w })))))
 
-cause_refuses : (n k : ℕ) (es : List ℕ) (room r : ℕ) → WriterCause n k es room r → (1 ≤ r) × (write_refusal n k es room ≡ r)
-cause_refuses n k es room r (barred e h) = rw e (omega arith, refuses_9 n k es room (nine_some es h))
-cause_refuses n k es room r (many e o h) = rw e (omega arith, refuses_13 n k es room (nine_none es o) h)
-cause_refuses n k es room r (long e o m h) = rw e (omega arith, refuses_11_long n k es room (nine_none es o) m h)
-cause_refuses n k es room r (short e o m h) = rw e (omega arith, refuses_11_short n k es room (nine_none es o) m h)
+cause_refuses : (n k : ℕ) (es : List ℕ) (room number : ℕ) → WriterCause n k es room number
+    → (r : Refusal) × (refusal_number r ≡ number) × (write_refusal n k es room ≡ Err r)
+cause_refuses n k es room number (barred e h) = (NoCall, sym e, refuses_9 n k es room (nine_some es h))
+cause_refuses n k es room number (many e o h) = (TooManyLines, sym e, refuses_13 n k es room (nine_none es o) h)
+cause_refuses n k es room number (long e o m h) = (TooLong, sym e, refuses_11_long n k es room (nine_none es o) m h)
+cause_refuses n k es room number (short e o m h) = (TooLong, sym e, refuses_11_short n k es room (nine_none es o) m h)
+
+cause_least : {n k : ℕ} {es : List ℕ} {room number : ℕ} → WriterCause n k es room number → 1 ≤ number
+cause_least (barred e h) = omega arith
+cause_least (many e o h) = omega arith
+cause_least (long e o m h) = omega arith
+cause_least (short e o m h) = omega arith
 
 module _ (n k : ℕ) (es lent : List ℕ) where
   -- what is whole is written ..
   whole_came : Whole n k es lent
-      → (written n k es lent ≡ Bytes (length (schedule_text n k es)))
+      → (written n k es lent ≡ Ok (length (schedule_text n k es)))
       × (written_row n k es lent ≡ schedule_text n k es ++ drop (length (schedule_text n k es)) lent)
   whole_came w =
       let t = written_as n k es lent (refuses_none n k es (length lent) w.none w.few w.fits w.room) in
       (sym t.0, sym t.1)
 
-  cause_came : (r : ℕ) → WriterCause n k es (length lent) r → (1 ≤ r) × (written n k es lent ≡ Refused r) × (written_row n k es lent ≡ lent)
-  cause_came r c =
-      let p = cause_refuses n k es (length lent) r c in
-      let t = refused_as n k es lent r p.0 p.1 in
-      (p.0, sym t.0, sym t.1)
+  cause_came : (number : ℕ) → WriterCause n k es (length lent) number
+      → (written_number (written n k es lent) ≡ number) × (written_row n k es lent ≡ lent)
+  cause_came number c =
+      let p = cause_refuses n k es (length lent) number c in
+      let t = refused_as n k es lent p.2 in
+      (sym (ap written_number t.0) ∙ p.1, sym t.1)
 
   -- .. and what is not refused is whole.
   whole_of : written_number (written n k es lent) ≡ 0 → Whole n k es lent
@@ -129,21 +140,21 @@ module _ (n k : ℕ) (es lent : List ℕ) where
     where
       go : Verdict n k es lent → Whole n k es lent
       go (whole w) = w
-      go (fault r c) = let t = cause_came r c in absurd (omega (arith, t.0, sym (ap written_number t.1) ∙ e))
+      go (fault r c) = absurd (omega (arith, cause_least c, sym (cause_came r c).0 ∙ e))
 
   cause_of : written_number (written n k es lent) ≢ 0 → WriterCause n k es (length lent) (written_number (written n k es lent))
   cause_of h = go (verdict n k es lent)
     where
       go : Verdict n k es lent → WriterCause n k es (length lent) (written_number (written n k es lent))
       go (whole w) = absurd (h (ap written_number (whole_came w).0))
-      go (fault r c) = rw (cause_came r c).1 c
+      go (fault r c) = rw (cause_came r c).0 c
 
 pub writer_refuses : WriterRefuses
 writer_refuses n k es lent number h =
-    (λ e. rw e at (cause_of n k es lent (λ z. omega (arith, h, sym e ∙ z))), λ c. ap written_number (cause_came n k es lent number c).1)
+    (λ e. rw e at (cause_of n k es lent (λ z. omega (arith, h, sym e ∙ z))), λ c. (cause_came n k es lent number c).0)
 
 pub refused_writing : RefusedWriting
-refused_writing n k es lent h = (cause_came n k es lent _ (cause_of n k es lent h)).2
+refused_writing n k es lent h = (cause_came n k es lent _ (cause_of n k es lent h)).1
 
 pub accepted_writing : AcceptedWriting
 accepted_writing n k es lent none few fits room =

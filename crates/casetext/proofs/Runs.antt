@@ -6,26 +6,8 @@ use mathlib.Core.Path.{◌≡◌}
 use mathlib.Core.List.{List, [], ◌++◌}
 use lib.ListN.{length, get_or, take, drop, length-drop, drop_of_length-le}
 use lib.Seq.{drop-drop, take_all}
-use Rattle.store.specs.Schedules.{claimant_in}
-use Rattle.casetext.specs.Words.{ascii}
-use Rattle.casetext.specs.Layout.{field_text, line_text}
-use Rattle.casetext.specs.Writing.{Room}
-use Rattle.casetext.specs.Report.{entry_text, entries_text, run_text}
-use Rattle.casetext.proofs.Puts.{room_first}
+use Rattle.casetext.specs.Report.{entry_text, entries_text}
 use Rattle.casetext.proofs.Schedules.{entry_first}
-
--- The four parts of a do line's report.
-abbrev pub who : (number entry : ℕ) → List ℕ
-who number entry = field_text (ascii "at=") number ++ field_text (ascii " who=") (claimant_in entry)
-
-abbrev pub session : (left : List ℕ) → List ℕ
-session left = field_text (ascii " place=") (get_or left 0 0) ++ field_text (ascii " session=") (get_or left 1 0)
-
-abbrev pub token : (left : List ℕ) → List ℕ
-token left = field_text (ascii " raised=") (get_or left 2 0) ++ field_text (ascii " token=") (get_or left 3 0)
-
-abbrev pub answer : (left : List ℕ) → List ℕ
-answer left = line_text (ascii " answer=") (get_or left 4 0)
 
 -- The reports from an entry on, of which each leaves five numbers.
 abbrev pub reports : (entries left : List ℕ) (i : ℕ) → List ℕ
@@ -41,10 +23,6 @@ reports_next entries left i h =
 pub reports_over : (entries left : List ℕ) (i : ℕ) → length entries ≤ i → reports entries left i ≡ []
 unfolding entries_text
 reports_over entries left i h = rw (drop_of_length-le entries h)
-
-pub reports_room : {held : List ℕ} (entries left : List ℕ) → Room held 0 (run_text entries left) → Room held 0 (reports entries left 0)
-unfolding run_text
-reports_room entries left room = room_first (entries_text 1 entries left) (line_text (ascii "end=") (length entries)) room
 
 -- a part to the end
 pub part_rest : (l : List ℕ) (i : ℕ) → take (length l - i) (drop i l) ≡ drop i l

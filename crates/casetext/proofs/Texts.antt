@@ -14,8 +14,9 @@ use Rattle.casetext.specs.Lines.{do_line_at}
 use Rattle.casetext.specs.Reading.{Said, before, do_lines}
 use Rattle.casetext.specs.Reading.Said.{accepted, refused}
 use Rattle.casetext.specs.Promises.{NoDoLine}
-use Rattle.casetext.specs.declared.Found.{Found}
-use Rattle.casetext.specs.declared.Found.TheVariants.{Is, Broken}
+use Rattle.std.specs.Prelude.{Option, None, Some}
+use Rattle.rules.specs.declared.Refusal.TheVariants.{BadLine, TooManyLines}
+use Rattle.casetext.specs.declared.cursor.Found.{Found}
 use borrow.Table.Steps.{cases as decide}
 use Rattle.casetext.proofs.Finding.{not_found}
 use Rattle.casetext.proofs.Gathering.{lines_end, lines_broken, lines_full, lines_more, before_none, before_before}
@@ -49,18 +50,19 @@ module _ (n k : ℕ) (s : List ℕ) where
 
 -- What the do lines from a place come to.
 pub data Run (n k : ℕ) (s : List ℕ) (places at line : ℕ) (r : Said) : Type 0 where
-  whole : (ts : List Call) → AllInRange ts → length ts ≤ places → drop at s ≡ do_texts ts → r ≡ accepted n k (map entry_of ts) → Run n k s places at line r
+  whole : (ts : List Call) → AllInRange ts → length ts ≤ places → drop at s ≡ do_texts ts → r ≡ accepted n k (map entry_of ts)
+      → Run n k s places at line r
   bad : (ts : List Call) (rest : List ℕ) → AllInRange ts → length ts ≤ places → drop at s ≡ do_texts ts ++ rest → (rest ≡ [] → ⊥) → NoDoLine rest
-      → r ≡ refused 12 (line + length ts) → Run n k s places at line r
+      → r ≡ refused BadLine (line + length ts) → Run n k s places at line r
   many : (ts : List Call) (t : Call) (rest : List ℕ) → AllInRange ts → InRange t → length ts ≡ places
-      → drop at s ≡ do_texts ts ++ (do_text t ++ rest) → r ≡ refused 13 (line + length ts) → Run n k s places at line r
+      → drop at s ≡ do_texts ts ++ (do_text t ++ rest) → r ≡ refused TooManyLines (line + length ts) → Run n k s places at line r
 
 module _ (n k : ℕ) (s : List ℕ) where
   at_end : (places at line : ℕ) → length s ≤ at → Run n k s places at line (do_lines n k places s at line)
   unfolding AllInRange do_texts
   at_end places at line h = whole [] tt (omega arith) (drop_of_length-le s h) (lines_end n k s at line places h)
 
-  at_bad : (places at line : ℕ) → at < length s → do_line_at s at ≡ Broken → Run n k s places at line (do_lines n k places s at line)
+  at_bad : (places at line : ℕ) → at < length s → do_line_at s at ≡ None → Run n k s places at line (do_lines n k places s at line)
   unfolding AllInRange do_texts
   at_bad places at line h e =
       bad [] (drop at s) tt (omega arith) refl
@@ -91,18 +93,18 @@ module _ (n k : ℕ) (s : List ℕ) where
       decide (leb (length s) at) (λ t. at_end zero at line (leb-true _ _ t))
       (λ t. go (leb-false _ _ t) (do_line_at s at) refl)
     where
-      go : at < length s → (f : Found) → do_line_at s at ≡ f → Run n k s zero at line (do_lines n k zero s at line)
-      go h Broken e = at_bad zero at line h e
-      go h (Is v next) e =
-          let d = do_stands s at e in
-          many [] d.0 (drop next s) tt d.1 refl d.3.text (rw (add-zero line) (lines_full n k s at line h e))
+      go : at < length s → (o : Option Found) → do_line_at s at ≡ o → Run n k s zero at line (do_lines n k zero s at line)
+      go h None e = at_bad zero at line h e
+      go h (Some f) e =
+          let d = do_stands s at {f = f} e in
+          many [] d.0 (drop f.next s) tt d.1 refl d.3.text (rw (add-zero line) (lines_full n k s at line h e))
   run (suc p) at line =
       decide (leb (length s) at) (λ t. at_end (suc p) at line (leb-true _ _ t))
       (λ t. go (λ next. run p next (line + 1)) (leb-false _ _ t) (do_line_at s at) refl)
     where
       go : ((next : ℕ) → Run n k s p next (line + 1) (do_lines n k p s next (line + 1))) → at < length s
-          → (f : Found) → do_line_at s at ≡ f → Run n k s (suc p) at line (do_lines n k (suc p) s at line)
-      go ih h Broken e = at_bad (suc p) at line h e
-      go ih h (Is v next) e =
-          let d = do_stands s at e in
-          rw (lines_more n k s at line h p e, d.2) (one_more p at line next d.0 _ d.1 d.3 (ih next))
+          → (o : Option Found) → do_line_at s at ≡ o → Run n k s (suc p) at line (do_lines n k (suc p) s at line)
+      go ih h None e = at_bad (suc p) at line h e
+      go ih h (Some f) e =
+          let d = do_stands s at {f = f} e in
+          rw (lines_more n k s at line h p e, d.2) (one_more p at line f.next d.0 _ d.1 d.3 (ih f.next))

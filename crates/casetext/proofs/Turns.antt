@@ -2,83 +2,95 @@
 -- Assumes nothing.
 use Prim.Native.Nat.{ℕ, ◌+◌, ◌≤◌}
 use native.Mathlib.Omega.{arith}
-use mathlib.Core.Path.{◌≡◌, refl, ◌∙◌}
+use mathlib.Core.Path.{◌≡◌, refl, sym, ◌∙◌}
 use mathlib.Core.Bool.{true}
 use mathlib.Core.List.{List, [], ◌∷◌, ◌++◌}
 use lib.Dec.{eqb}
 use lib.ListN.{length, get_or, drop}
 use borrow.Author.Tests.{eqb-true}
+use borrow.Table.Steps.{cases as decide}
+use Rattle.std.specs.Prelude.{Some}
 use Rattle.rules.specs.declared.Call.{Call}
 use Rattle.rules.specs.declared.Call.TheVariants.{Ask, Step, Leave}
 use Rattle.casetext.specs.Words.{ascii}
 use Rattle.casetext.specs.Numerals.{numeral}
 use Rattle.casetext.specs.Layout.{InRange, entry_of, entry, field_text, line_text, turn_text, do_text}
-use Rattle.casetext.specs.Pieces.{begins, number_at, field_at}
-use Rattle.casetext.specs.Lines.{ended, line_at, of_kind, called_at, with_session, asked_by, then_session, ask_at, turn_at, do_line_at}
-use Rattle.casetext.specs.declared.Found.{Found}
-use Rattle.casetext.specs.declared.Found.TheVariants.{Is, Broken}
-use borrow.Table.Steps.{cases as decide}
-use Rattle.casetext.proofs.Finding.{not_found}
+use Rattle.casetext.specs.Pieces.{found, and_then, begins, past, number_at, field_at}
+use Rattle.casetext.specs.Lines.{ended_at, line_at, called_at, asked_by, ask_at, turn_at, do_line_at}
+use Rattle.casetext.specs.declared.cursor.Found.{Found}
+use Rattle.casetext.proofs.Finding.{not_found, found_of}
 use Rattle.casetext.proofs.Digits.{number_most, field_most}
 use Rattle.casetext.proofs.Stands.{Stands, stands_both, stands_left, stands_right, word_stands, word_found, first_byte, byte_stands}
 use Rattle.casetext.proofs.Numerals.{NoDigit, number_found, number_stands}
 
 -- The line's end.
-pub end_found : {s : List ℕ} {at next : ℕ} (v : ℕ) → Stands s at next (ascii "\n") → ended s (Is v at) ≡ Is v next
-unfolding ended
+pub end_found : {s : List ℕ} {at next : ℕ} (v : ℕ) → Stands s at next (ascii "\n") → ended_at s (record { value = v; next = at }) ≡ found v next
+unfolding ended_at
 end_found {s} {at} {next} v p =
     let b : get_or s at 0 ≡ 10 = first_byte s at ∙ rw p.text in
     let e : next ≡ at + 1 = p.ends in
     rw (b, e)
 
-pub end_stands : (s : List ℕ) (f : Found) {v next : ℕ} → ended s f ≡ Is v next → (at : ℕ) × (f ≡ Is v at) × Stands s at next (ascii "\n")
-unfolding ended
-end_stands s Broken e = not_found e
-end_stands s (Is u at) {v} {next} e =
-    decide (eqb (get_or s at 0) 10)
+pub end_stands : (s : List ℕ) (f : Found) {g : Found} → ended_at s f ≡ Some g → (f.value ≡ g.value) × Stands s f.next g.next (ascii "\n")
+unfolding ended_at
+end_stands s f {g} e =
+    decide (eqb (get_or s f.next 0) 10)
     (λ t.
-    let f : Is u (at + 1) ≡ Is v next = rw t at e in
-    let q : u ≡ v = cc in
-    let r : at + 1 ≡ next = cc in
-    (at, rw q, rw (← r) (byte_stands s at 10 (omega arith) (eqb-true _ _ t))))
+    let h : found f.value (f.next + 1) ≡ Some g = rw t at e in
+    let q : f.next + 1 ≡ g.next = cc in
+    (cc, rw (← q) (byte_stands s f.next 10 (omega arith) (eqb-true _ _ t))))
     (λ t. not_found (rw t at e))
 
 -- A line's end and a space are no digits.
 pub end_no_digit : {s : List ℕ} {at next : ℕ} (b : ℕ) (w : List ℕ) → NoDigit (b ∷ []) → Stands s at next (b ∷ w) → NoDigit (drop at s)
 end_no_digit b w d p = rw p.text d
 
--- A word and a number.
-pub field_found : (w : List ℕ) {most n : ℕ} {s : List ℕ} {at next : ℕ} → n ≤ most → Stands s at next (field_text w n) → NoDigit (drop next s)
-    → field_at w most s at ≡ Is n next
-unfolding field_at
-field_found w {most} {n} h p d =
-    rw (word_found (stands_left w (numeral n) p)) (number_found most n h (stands_right w (numeral n) p) d)
+-- A word.
+past_found : (w : List ℕ) {s : List ℕ} {at next : ℕ} → Stands s at next w → past w s at ≡ Some (at + length w)
+unfolding past
+past_found w p = rw (word_found p)
 
-pub field_stands : (w : List ℕ) (most : ℕ) (s : List ℕ) (at : ℕ) {n next : ℕ} → field_at w most s at ≡ Is n next → Stands s at next (field_text w n)
-unfolding field_at
-field_stands w most s at e =
+past_stands : (w s : List ℕ) (at : ℕ) {next : ℕ} → past w s at ≡ Some next → Stands s at next w
+unfolding past
+past_stands w s at {next} e =
     decide (begins w (drop at s))
-    (λ b. stands_both (word_stands w s at b) (number_stands most s (at + length w) (rw b at e)))
+    (λ b. let q : at + length w ≡ next = cc in rw (← q) (word_stands w s at b))
     (λ b. not_found (rw b at e))
 
+-- A word and a number.
+pub field_found : (w : List ℕ) {most n : ℕ} {s : List ℕ} {at next : ℕ} → n ≤ most → Stands s at next (field_text w n) → NoDigit (drop next s)
+    → field_at w most s at ≡ found n next
+unfolding field_at
+field_found w {most} {n} h p d =
+    rw (past_found w (stands_left w (numeral n) p)) (number_found most n h (stands_right w (numeral n) p) d)
+
+pub field_stands : (w : List ℕ) (most : ℕ) (s : List ℕ) (at : ℕ) {f : Found} → field_at w most s at ≡ Some f
+    → Stands s at f.next (field_text w f.value)
+unfolding field_at
+field_stands w most s at {f} e =
+    let r = found_of (past w s at) e in
+    stands_both (past_stands w s at r.1) (number_stands most s r.0 {f = f} r.2)
+
 -- A line of a word and a number.
-pub line_found : (w : List ℕ) {most n : ℕ} {s : List ℕ} {at next : ℕ} → n ≤ most → Stands s at next (line_text w n) → line_at w most s at ≡ Is n next
+pub line_found : (w : List ℕ) {most n : ℕ} {s : List ℕ} {at next : ℕ} → n ≤ most → Stands s at next (line_text w n)
+    → line_at w most s at ≡ found n next
 unfolding line_at
 line_found w {most} {n} {s} {at} h p =
     let r = stands_right (field_text w n) (ascii "\n") p in
     rw (field_found w h (stands_left (field_text w n) (ascii "\n") p) (end_no_digit 10 [] refl r)) (end_found n r)
 
-pub line_stands : (w : List ℕ) (most : ℕ) (s : List ℕ) (at : ℕ) {n next : ℕ} → line_at w most s at ≡ Is n next
-    → (n ≤ most) × Stands s at next (line_text w n)
+pub line_stands : (w : List ℕ) (most : ℕ) (s : List ℕ) (at : ℕ) {f : Found} → line_at w most s at ≡ Some f
+    → (f.value ≤ most) × Stands s at f.next (line_text w f.value)
 unfolding line_at
-line_stands w most s at e =
-    let r = end_stands s (field_at w most s at) e in
-    (field_most w most s at r.1, stands_both (field_stands w most s at r.1) r.2)
+line_stands w most s at {f} e =
+    let r = found_of (field_at w most s at) e in
+    let q = end_stands s r.0 {g = f} r.2 in
+    rw (← q.0) (field_most w most s at r.1, stands_both (field_stands w most s at r.1) q.1)
 
 -- What stands after `do=`.
 pub turn_found : (t : Call) {s : List ℕ} {at next : ℕ} → InRange t → Stands s at next (turn_text t) → NoDigit (drop next s)
-    → turn_at s at ≡ Is (entry_of t) next
-unfolding turn_at turn_text InRange entry_of called_at of_kind ask_at then_session asked_by with_session begins
+    → turn_at s at ≡ found (entry_of t) next
+unfolding turn_at turn_text InRange entry_of called_at ask_at asked_by
 turn_found (Ask who session) h p d =
     let l = stands_left (field_text (ascii "ask ") who) (field_text (ascii " ") session) p in
     let r = stands_right (field_text (ascii "ask ") who) (field_text (ascii " ") session) p in
@@ -99,79 +111,66 @@ pub record TurnStands (s : List ℕ) (at e next : ℕ) : Type 0 where
   pub says : e ≡ entry_of turn
   pub stands : Stands s at next (turn_text turn)
 
-called_stands : (kind : ℕ) (s : List ℕ) (at : ℕ) {e next : ℕ} → called_at kind s at ≡ Is e next
-    → (who : ℕ) × (who ≤ 255) × (e ≡ entry kind who 0) × Stands s at next (numeral who)
-unfolding called_at of_kind
-called_stands kind s at {e} {next} f = go (number_at 255 s at) refl f
-  where
-    go : (r : Found) → number_at 255 s at ≡ r → of_kind kind r ≡ Is e next
-        → (who : ℕ) × (who ≤ 255) × (e ≡ entry kind who 0) × Stands s at next (numeral who)
-    go Broken q f = not_found f
-    go (Is who b) q f =
-        let x : e ≡ entry kind who 0 = cc in
-        let y : b ≡ next = cc in
-        (who, number_most 255 s at q, x, rw y at (number_stands 255 s at q))
+called_stands : (kind : ℕ) (s : List ℕ) (at : ℕ) {f : Found} → called_at kind s at ≡ Some f
+    → (who : ℕ) × (who ≤ 255) × (f.value ≡ entry kind who 0) × Stands s at f.next (numeral who)
+unfolding called_at
+called_stands kind s at {f} e =
+    let r = found_of (number_at 255 s at) e in
+    let y : r.0.next ≡ f.next = cc in
+    (r.0.value, number_most 255 s at r.1, cc, rw y at (number_stands 255 s at r.1))
 
-asked_stands : (who : ℕ) (s : List ℕ) (at : ℕ) {e next : ℕ} → asked_by who s at ≡ Is e next
-    → (session : ℕ) × (session ≤ 65535) × (e ≡ entry 1 who session) × Stands s at next (field_text (ascii " ") session)
-unfolding asked_by with_session
-asked_stands who s at {e} {next} f = go (field_at (ascii " ") 65535 s at) refl f
-  where
-    go : (r : Found) → field_at (ascii " ") 65535 s at ≡ r → with_session who r ≡ Is e next
-        → (session : ℕ) × (session ≤ 65535) × (e ≡ entry 1 who session) × Stands s at next (field_text (ascii " ") session)
-    go Broken q f = not_found f
-    go (Is session b) q f =
-        let x : e ≡ entry 1 who session = cc in
-        let y : b ≡ next = cc in
-        (session, field_most (ascii " ") 65535 s at q, x, rw y at (field_stands (ascii " ") 65535 s at q))
+asked_stands : (who : ℕ) (s : List ℕ) (at : ℕ) {f : Found} → asked_by who s at ≡ Some f
+    → (session : ℕ) × (session ≤ 65535) × (f.value ≡ entry 1 who session) × Stands s at f.next (field_text (ascii " ") session)
+unfolding asked_by
+asked_stands who s at {f} e =
+    let r = found_of (field_at (ascii " ") 65535 s at) e in
+    let y : r.0.next ≡ f.next = cc in
+    (r.0.value, field_most (ascii " ") 65535 s at r.1, cc, rw y at (field_stands (ascii " ") 65535 s at r.1))
 
-ask_stands : (s : List ℕ) (at : ℕ) {e next : ℕ} → begins (ascii "ask ") (drop at s) ≡ true → ask_at s (at + 4) ≡ Is e next → TurnStands s at e next
-unfolding ask_at then_session turn_text entry_of InRange
-ask_stands s at {e} {next} w f = go (number_at 255 s (at + 4)) refl f
-  where
-    go : (r : Found) → number_at 255 s (at + 4) ≡ r → then_session s r ≡ Is e next → TurnStands s at e next
-    go Broken q f = not_found f
-    go (Is who b) q f =
-        let r = asked_stands who s b f in
-        let l = stands_both (word_stands (ascii "ask ") s at w) (number_stands 255 s (at + 4) q) in
-        record {
-          turn = Ask who r.0;
-          ranged = (number_most 255 s (at + 4) q, r.1);
-          says = r.2;
-          stands = stands_both l r.3;
-        }
+ask_stands : (s : List ℕ) (at : ℕ) {f : Found} → begins (ascii "ask ") (drop at s) ≡ true → ask_at s (at + 4) ≡ Some f
+    → TurnStands s at f.value f.next
+unfolding ask_at turn_text entry_of InRange
+ask_stands s at {f} w e =
+    let r = found_of (number_at 255 s (at + 4)) e in
+    let q = asked_stands r.0.value s r.0.next {f = f} r.2 in
+    let l = stands_both (word_stands (ascii "ask ") s at w) (number_stands 255 s (at + 4) r.1) in
+    record {
+      turn = Ask r.0.value q.0;
+      ranged = (number_most 255 s (at + 4) r.1, q.1);
+      says = q.2;
+      stands = stands_both l q.3;
+    }
 
-pub turn_stands : (s : List ℕ) (at : ℕ) {e next : ℕ} → turn_at s at ≡ Is e next → TurnStands s at e next
+pub turn_stands : (s : List ℕ) (at : ℕ) {f : Found} → turn_at s at ≡ Some f → TurnStands s at f.value f.next
 unfolding turn_at turn_text entry_of InRange
-turn_stands s at {e} {next} f =
+turn_stands s at {f} e =
     decide (begins (ascii "step ") (drop at s))
     (λ w.
-    let r = called_stands 0 s (at + 5) (rw w at f) in
+    let r = called_stands 0 s (at + 5) {f = f} (rw w at e) in
     record { turn = Step r.0; ranged = r.1; says = r.2; stands = stands_both (word_stands (ascii "step ") s at w) r.3 })
     (λ v. decide (begins (ascii "ask ") (drop at s))
-    (λ w. ask_stands s at w (rw (v, w) at f))
+    (λ w. ask_stands s at {f = f} w (rw (v, w) at e))
     (λ u. decide (begins (ascii "leave ") (drop at s))
     (λ w.
-    let r = called_stands 2 s (at + 6) (rw (v, u, w) at f) in
+    let r = called_stands 2 s (at + 6) {f = f} (rw (v, u, w) at e) in
     record { turn = Leave r.0; ranged = r.1; says = r.2; stands = stands_both (word_stands (ascii "leave ") s at w) r.3 })
-    (λ w. not_found (rw (v, u, w) at f))))
+    (λ w. not_found (rw (v, u, w) at e))))
 
 -- A do line.
-pub do_found : (t : Call) {s : List ℕ} {at next : ℕ} → InRange t → Stands s at next (do_text t) → do_line_at s at ≡ Is (entry_of t) next
+pub do_found : (t : Call) {s : List ℕ} {at next : ℕ} → InRange t → Stands s at next (do_text t) → do_line_at s at ≡ found (entry_of t) next
 unfolding do_line_at
 do_found t {s} {at} {next} h p =
     let l = stands_left (ascii "do=" ++ turn_text t) (ascii "\n") p in
     let r = stands_right (ascii "do=" ++ turn_text t) (ascii "\n") p in
-    rw (word_found (stands_left (ascii "do=") (turn_text t) l))
+    rw (past_found (ascii "do=") (stands_left (ascii "do=") (turn_text t) l))
     (rw (turn_found t h (stands_right (ascii "do=") (turn_text t) l) (end_no_digit 10 [] refl r)) (end_found (entry_of t) r))
 
-pub do_stands : (s : List ℕ) (at : ℕ) {e next : ℕ} → do_line_at s at ≡ Is e next
-    → (t : Call) × InRange t × (e ≡ entry_of t) × Stands s at next (do_text t)
+pub do_stands : (s : List ℕ) (at : ℕ) {f : Found} → do_line_at s at ≡ Some f
+    → (t : Call) × InRange t × (f.value ≡ entry_of t) × Stands s at f.next (do_text t)
 unfolding do_line_at
-do_stands s at f =
-    decide (begins (ascii "do=") (drop at s))
-    (λ w.
-    let r = end_stands s (turn_at s (at + 3)) (rw w at f) in
-    let t = turn_stands s (at + 3) r.1 in
-    (t.turn, t.ranged, t.says, stands_both (stands_both (word_stands (ascii "do=") s at w) t.stands) r.2))
-    (λ w. not_found (rw w at f))
+do_stands s at {f} e =
+    let r = found_of (and_then (past (ascii "do=") s at) (turn_at s)) e in
+    let q = found_of (past (ascii "do=") s at) r.1 in
+    let t = turn_stands s q.0 q.2 in
+    let o = end_stands s r.0 {g = f} r.2 in
+    (t.turn, t.ranged, sym o.0 ∙ t.says, stands_both (stands_both (past_stands (ascii "do=") s at q.1) t.stands) o.1)

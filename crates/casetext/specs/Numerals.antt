@@ -12,10 +12,3 @@ numeral_within (suc most) n =
 -- n has at most n + 1 digits.
 unfoldable pub numeral : ℕ → List ℕ
 numeral n = numeral_within (suc n) n
-
--- The two digits of a number below 100, and the four of one below 10,000, zeros in front among them.
-abbrev pub pair : ℕ → List ℕ
-pair n = numeral (n / 10) ++ numeral (n % 10)
-
-abbrev pub four : ℕ → List ℕ
-four n = pair (n / 100) ++ pair (n % 100)

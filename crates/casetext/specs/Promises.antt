@@ -1,15 +1,16 @@
 -- What is promised of the reader and of the report: the texts accepted and refused are exactly those that 01 names.
-use Rattle.std.specs.Prelude.{ℕ, ◌+◌, ◌≤◌, ◌<◌, false, ◌≡◌, ◌≢◌, ◌↔◌, List, [], ◌∷◌, ◌++◌, map, length, get_or, drop}
+use Rattle.std.specs.Prelude.{ℕ, ◌+◌, ◌≤◌, ◌<◌, false, ◌≡◌, ◌≢◌, ◌↔◌, List, [], ◌∷◌, ◌++◌, map, length, get_or, drop, Some, Ok}
 use Rattle.rules.specs.declared.Call.{Call}
 use Rattle.rules.specs.declared.Call.TheVariants.{Step}
 use Rattle.store.specs.Schedules.{is_nine, call_of}
+use Rattle.rules.specs.Answers.{refusal_number}
 use Rattle.casetext.specs.Words.{ascii}
 use Rattle.casetext.specs.Layout.{InRange, AllInRange, entry_of, line_text, do_text, case_text, Writes}
 use Rattle.casetext.specs.Reading.{reading, read_into, told, row_after}
 use Rattle.casetext.specs.Answers.{reading_number, reading_line, reading_values}
 use Rattle.casetext.specs.Report.{printed, report_bytes, reported}
-use Rattle.casetext.specs.declared.Reading.TheVariants.{Case}
-use Rattle.casetext.specs.declared.Reported.TheVariants.{Printed}
+use Rattle.rules.specs.declared.Refusal.{Refusal}
+use Rattle.casetext.specs.declared.Case.{Case}
 use Rattle.casetext.specs.Reading.Said.{accepted, refused}
 
 -- A text that is a case: short enough, in the layout, with at most 2,048 do lines. The entries are those of its calls.
@@ -70,7 +71,7 @@ pub data Cause (s : List ℕ) (number line : ℕ) : Type 0 where
 
 -- A text is refused exactly for its cause: the line given is that of the first line at fault.
 abbrev pub RefusedExactly : Type 0
-RefusedExactly = (s : List ℕ) (number line : ℕ) → reading s ≡ refused number line ↔ Cause s number line
+RefusedExactly = (s : List ℕ) (r : Refusal) (line : ℕ) → reading s ≡ refused r line ↔ Cause s (refusal_number r) line
 
 -- Why the reader refuses a text so, with this row lent for its entries: 10 comes before all that is wrong with the text.
 pub data ReaderCause (row s : List ℕ) (number line : ℕ) : Type 0 where
@@ -98,7 +99,7 @@ AcceptedReading =
 
 -- No reading has more entries than a case text may have do lines.
 abbrev pub ReadWithin : Type 0
-ReadWithin = (row s : List ℕ) (claimants ceiling count : ℕ) → told (read_into row s) ≡ Case claimants ceiling count → count ≤ 2048
+ReadWithin = (row s : List ℕ) (c : Case) → told (read_into row s) ≡ Ok c → c.count ≤ 2048
 
 -- Every entry given back makes the very call that its do line says: refusal 9 names none of them.
 abbrev pub EntriesMade : Type 0
@@ -112,7 +113,7 @@ ReportFits = (s : List ℕ) → length (printed s) ≤ report_bytes
 
 -- What was printed lies within the row that was lent.
 abbrev pub PrintedWithin : Type 0
-PrintedWithin = (row s : List ℕ) (bytes : ℕ) → reported row s ≡ Printed bytes → bytes ≤ length row
+PrintedWithin = (row s : List ℕ) (bytes : ℕ) → reported row s ≡ Some bytes → bytes ≤ length row
 
 -- Something is always printed.
 abbrev pub PrintsSomething : Type 0

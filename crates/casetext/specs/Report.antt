@@ -1,6 +1,7 @@
 -- What `boardcase` prints of a case text.
-use Rattle.std.specs.Prelude.{ℕ, ◌+◌, List, [], ◌∷◌, ◌++◌, eqb, ltb, length, get_or, drop}
-use Rattle.rules.specs.Tests.{pick, first}
+use Rattle.std.specs.Prelude.{ℕ, ◌+◌, List, [], ◌∷◌, ◌++◌, ltb, length, get_or, drop, Option, None, Some}
+use Rattle.rules.specs.Tests.{pick, Verdict, first, by_verdict}
+use Rattle.rules.specs.Answers.{refusal_number}
 use Rattle.rules.specs.Rules.{open_refusals}
 use Rattle.rules.specs.Tables.{opened}
 use Rattle.store.specs.Schedules.{claimant_in}
@@ -9,17 +10,14 @@ use Rattle.casetext.specs.Words.{ascii}
 use Rattle.casetext.specs.Layout.{field_text, line_text}
 use Rattle.casetext.specs.Reading.{Said, reading}
 use Rattle.casetext.specs.Reading.Said.{accepted, refused}
-use Rattle.casetext.specs.Writing.{put}
-use Rattle.casetext.specs.declared.Reported.{Reported}
-use Rattle.casetext.specs.declared.Reported.TheVariants.{Printed, Short}
 
 -- A do line's report: its number, the claimant, and then what its entry left: place, Session, Choosing, Token, the answer.
 unfoldable pub entry_text : (number entry : ℕ) → (left : List ℕ) → List ℕ
 entry_text number entry left =
-    (field_text (ascii "at=") number ++ field_text (ascii " who=") (claimant_in entry)) ++
-    (field_text (ascii " place=") (get_or left 0 0) ++ field_text (ascii " session=") (get_or left 1 0)) ++
-    (field_text (ascii " raised=") (get_or left 2 0) ++ field_text (ascii " token=") (get_or left 3 0)) ++
-    line_text (ascii " answer=") (get_or left 4 0)
+    field_text (ascii "at=") number ++ (field_text (ascii " who=") (claimant_in entry) ++
+    (field_text (ascii " place=") (get_or left 0 0) ++ (field_text (ascii " session=") (get_or left 1 0) ++
+    (field_text (ascii " raised=") (get_or left 2 0) ++ (field_text (ascii " token=") (get_or left 3 0) ++
+    line_text (ascii " answer=") (get_or left 4 0))))))
 
 -- The same for each entry, of which the first has this number; each left five numbers.
 unfoldable pub entries_text : (number : ℕ) → (entries left : List ℕ) → List ℕ
@@ -34,12 +32,14 @@ unfoldable pub run_text : (entries left : List ℕ) → List ℕ
 run_text entries left = entries_text 1 entries left ++ line_text (ascii "end=") (length entries)
 
 -- Refusal 1 of the opening is of line 1, and 2 of line 2.
-unfoldable pub opened_text : (refusal : ℕ) → (claimants ceiling : ℕ) → (entries : List ℕ) → List ℕ
-opened_text r n k entries = pick (eqb r 0) (run_text entries (traced (terms_of k) entries (opened n))) (refusal_text r r)
+unfoldable pub opened_text : Verdict → (claimants ceiling : ℕ) → (entries : List ℕ) → List ℕ
+opened_text v n k entries =
+    by_verdict v (run_text entries (traced (terms_of k) entries (opened n)))
+    (λ r. refusal_text (refusal_number r) (refusal_number r))
 
 unfoldable pub said_text : Said → List ℕ
 said_text (accepted n k entries) = opened_text (first (open_refusals n (terms_of k))) n k entries
-said_text (refused number line) = refusal_text number line
+said_text (refused r line) = refusal_text (refusal_number r) line
 
 -- All that is printed, from the text. The text is judged before the opening.
 unfoldable pub printed : (text : List ℕ) → List ℕ
@@ -49,8 +49,8 @@ printed s = said_text (reading s)
 abbrev pub report_bytes : ℕ
 report_bytes = 153609
 
-unfoldable pub reported : (row : List ℕ) → (text : List ℕ) → Reported
-reported row s = pick (ltb (length row) report_bytes) Short (Printed (length (printed s)))
+unfoldable pub reported : (row : List ℕ) → (text : List ℕ) → Option ℕ
+reported row s = pick (ltb (length row) report_bytes) None (Some (length (printed s)))
 
 unfoldable pub report_row : (row : List ℕ) → (text : List ℕ) → List ℕ
-report_row row s = pick (ltb (length row) report_bytes) row (put row 0 (printed s))
+report_row row s = pick (ltb (length row) report_bytes) row (printed s ++ drop (length (printed s)) row)

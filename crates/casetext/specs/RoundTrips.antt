@@ -1,12 +1,11 @@
 -- What is promised of the writer: what it writes is read back, what was read is written back, and each refusal is given exactly for its cause.
-use Rattle.std.specs.Prelude.{ℕ, ◌≤◌, ◌<◌, true, false, ◌≡◌, ◌≢◌, ◌↔◌, List, [], ◌∷◌, ◌++◌, length, get_or, take, drop, replicate}
+use Rattle.std.specs.Prelude.{ℕ, ◌≤◌, ◌<◌, true, false, ◌≡◌, ◌≢◌, ◌↔◌, List, [], ◌∷◌, ◌++◌, length, get_or, take, drop, replicate, Ok}
 use Rattle.store.specs.Schedules.{is_nine}
 use Rattle.casetext.specs.Layout.{entry}
 use Rattle.casetext.specs.Reading.{read_into}
 use Rattle.casetext.specs.Reading.Said.{accepted}
 use Rattle.casetext.specs.Written.{schedule_text, written, written_row}
 use Rattle.casetext.specs.Answers.{written_number, written_bytes}
-use Rattle.casetext.specs.declared.Written.TheVariants.{Bytes}
 
 -- Reading what was written gives the same three back, into any row that the reader takes.
 abbrev pub ReadsBack : Type 0
@@ -65,7 +64,7 @@ AcceptedWriting =
 abbrev pub WrittenWithin : Type 0
 WrittenWithin =
     (claimants ceiling : ℕ) (schedule lent : List ℕ) (bytes : ℕ)
-    → written claimants ceiling schedule lent ≡ Bytes bytes → (bytes ≤ 32768) × (bytes ≤ length lent)
+    → written claimants ceiling schedule lent ≡ Ok bytes → (bytes ≤ 32768) × (bytes ≤ length lent)
 
 -- Each of these happens. 2,046 asks of 16 bytes each, after 32 bytes of head, are the longest text; a head that is one byte longer is refused.
 abbrev pub longest : List ℕ

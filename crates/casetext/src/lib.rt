@@ -3,8 +3,10 @@
 // The layout is defined by writing (specs/Layout.antt): a line is the text of what it says.
 #![tactic(auto)]
 
+ghost use Rattle.std.specs.Prelude.{◌≡◌};
+
+mod cursor;
 mod lines;
-mod pieces;
 mod reader;
 mod reporting;
 mod sizes;
@@ -14,39 +16,29 @@ mod writing;
 
 pub use reader::read;
 pub use reporting::report;
+use rules::Refusal;
 pub use writer::write;
 
-// What a reader finds at a place: a number, with the place past its text, or a text that breaks the layout.
-#[derive(Clone, Copy)]
-pub(crate) enum Found {
-    Is { value: u32, next: usize },
-    Broken,
+// A case text that was read: the two numbers, and how many entries it has.
+#[derive(Clone, Copy, Debug, PartialEq, Eq)]
+pub struct Case {
+    pub claimants: u32,
+    pub ceiling: u32,
+    pub count: usize,
 }
 
-// What a case text says: the two numbers and how many entries it has, or the number of a refusal with its line, 0 if it has none.
-#[derive(Clone, Copy)]
-pub enum Reading {
-    Case {
-        claimants: u32,
-        ceiling: u32,
-        count: usize,
-    },
-    Refused {
-        number: u8,
-        line: usize,
-    },
+// Why a text is refused, and at which line; 0 where no line is at fault.
+#[derive(Clone, Copy, Debug, PartialEq, Eq)]
+pub struct Fault {
+    pub refusal: Refusal,
+    pub line: usize,
 }
 
-// What a schedule's text came to: so many bytes, or the number of a refusal.
-#[derive(Clone, Copy)]
-pub enum Written {
-    Bytes(usize),
-    Refused(u8),
-}
-
-// What a report came to: so many bytes, or a row that some report would not fit.
-#[derive(Clone, Copy)]
-pub enum Reported {
-    Printed(usize),
-    Short,
+impl Fault {
+    // This refusal of this line.
+    pub(crate) fn at(refusal: Refusal, line: usize) -> Fault
+        ensures { result ≡ record { refusal = refusal; line = line } }
+    {
+        Fault { refusal, line }
+    }
 }

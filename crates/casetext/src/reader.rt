@@ -1,115 +1,71 @@
 // The reader of case texts.
-ghost use Rattle.std.specs.Prelude.{◌≡◌, ◌≤◌, ◌++◌, length, take, drop};
+ghost use Rattle.std.specs.Prelude.{◌≡◌, []};
 ghost use Rattle.casetext.specs.Reading.{do_lines, reading, read_into, told, Drafted, row_after};
 
-use crate::lines::{do_line, line};
+use crate::cursor::Cursor;
 use crate::spelling::{CEILING, CLAIMANTS};
-use crate::{Found, Reading};
+use crate::{Case, Fault};
+use arrayvec::ArrayVec;
+use rules::Refusal;
 
-// The do lines from a place on, of a case with these two numbers: their entries go into the first places of a draft.
-fn do_lines(text: &[u8], from: usize, claimants: u32, ceiling: u32, draft: &mut [u32]) -> Reading
-    requires { 2048 ≤ length draft.old }
-    ensures value { result ≡ told (do_lines claimants ceiling 2048 text.now from 3) }
-    ensures drafted { Drafted (do_lines claimants ceiling 2048 text.now from 3) draft.new }
+// Room for the entries of one case.
+pub(crate) type Draft = ArrayVec<u32, 2048>;
+
+// The do lines from a place on, of a case with these two numbers: their entries go into a draft.
+#[tactic(auto, using(crate::proofs::Gathering::gathering))]
+fn do_lines(lines: Cursor, claimants: u32, ceiling: u32, draft: &mut Draft) -> Result<Case, Fault>
+    requires { draft.old.items ≡ [] }
+    ensures value { result ≡ told (do_lines claimants ceiling 2048 lines.entry.text.now lines.entry.at 3) }
+    ensures drafted { Drafted (do_lines claimants ceiling 2048 lines.entry.text.now lines.entry.at 3) draft.new.items }
 {
-    let mut at = from;
-    let mut count = 0;
-    while at < text.len() {
-        let found = do_line(text, at);
-        match found {
-            Found::Broken => {
-                return Reading::Refused {
-                    number: 12,
-                    line: count + 3,
-                };
-            }
-            Found::Is { value, next } => {
-                if 2048 <= count {
-                    return Reading::Refused {
-                        number: 13,
-                        line: count + 3,
-                    };
-                }
-                draft[count] = value;
-                count += 1;
-                at = next;
-            }
+    let mut here = lines;
+    while here.at < here.text.len() {
+        let line = draft.len() + 3;
+        let found = here.do_line().ok_or(Fault::at(Refusal::BadLine, line))?;
+        if draft.try_push(found.value).is_err() {
+            return Err(Fault::at(Refusal::TooManyLines, line));
         }
+        here = here.to(found.next);
     }
-    Reading::Case {
+    Ok(Case {
         claimants,
         ceiling,
-        count,
-    }
+        count: draft.len(),
+    })
 }
 
-// A whole text, its entries into the first places of a draft.
-pub(crate) fn drafted(text: &[u8], draft: &mut [u32]) -> Reading
-    requires { 2048 ≤ length draft.old }
+// A whole text, its entries into a draft.
+#[tactic(auto, unfolding(crate::specs::Reading::reading))]
+pub(crate) fn drafted(text: &[u8], draft: &mut Draft) -> Result<Case, Fault>
+    requires { draft.old.items ≡ [] }
     ensures value { result ≡ told (reading text.now) }
-    ensures drafted { Drafted (reading text.now) draft.new }
+    ensures drafted { Drafted (reading text.now) draft.new.items }
 {
     if 32768 < text.len() {
-        return Reading::Refused {
-            number: 11,
-            line: 0,
-        };
+        return Err(Fault::at(Refusal::TooLong, 0));
     }
-    let Found::Is {
-        value: claimants,
-        next: second,
-    } = line(text, 0, &CLAIMANTS, 4294967295)
-    else {
-        return Reading::Refused {
-            number: 12,
-            line: 1,
-        };
-    };
-    let Found::Is {
-        value: ceiling,
-        next: third,
-    } = line(text, second, &CEILING, 4294967295)
-    else {
-        return Reading::Refused {
-            number: 12,
-            line: 2,
-        };
-    };
-    do_lines(text, third, claimants, ceiling, draft)
-}
-
-// The first `count` entries of a draft into a row that has room for a whole one.
-fn copied(draft: &[u32], count: usize, entries: &mut [u32])
-    requires in_draft { count ≤ length draft.now }
-    requires in_entries { count ≤ length entries.old }
-    ensures { entries.new ≡ take count draft.now ++ drop count entries.old }
-{
-    let mut i = 0;
-    while i < count {
-        entries[i] = draft[i];
-        i += 1;
-    }
+    let first = Cursor { text, at: 0 };
+    let claimants = first
+        .line(&CLAIMANTS, u32::MAX)
+        .ok_or(Fault::at(Refusal::BadLine, 1))?;
+    let second = first.to(claimants.next);
+    let ceiling = second
+        .line(&CEILING, u32::MAX)
+        .ok_or(Fault::at(Refusal::BadLine, 2))?;
+    let third = first.to(ceiling.next);
+    do_lines(third, claimants.value, ceiling.value, draft)
 }
 
 // Reads a case text into a lent row of entries. A refused text leaves the row as it was, so the entries are drafted apart first.
-pub fn read(text: &[u8], entries: &mut [u32]) -> Reading
+#[tactic(auto, unfolding(crate::specs::Reading::read_into))]
+pub fn read(text: &[u8], entries: &mut [u32]) -> Result<Case, Fault>
     ensures { (result ≡ told (read_into entries.old text.now)) × (entries.new ≡ row_after (read_into entries.old text.now) entries.old) }
 {
     if entries.len() < 2048 {
-        return Reading::Refused {
-            number: 10,
-            line: 0,
-        };
+        return Err(Fault::at(Refusal::NoRoom, 0));
     }
-    let mut draft = [0u32; 2048];
-    let said = drafted(text, &mut draft);
-    if let Reading::Case {
-        claimants: _,
-        ceiling: _,
-        count,
-    } = said
-    {
-        copied(&draft, count, entries);
-    }
-    said
+    let mut draft = Draft::new();
+    let case = drafted(text, &mut draft)?;
+    entries[..draft.len()].copy_from_slice(draft.as_slice());
+    Ok(case)
 }

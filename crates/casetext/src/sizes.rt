@@ -1,6 +1,6 @@
 // How long the pieces of a case text are, so that a text's length is known before anything of it is written. Each also says how
 // much it is at most, so that its caller's sum fits.
-ghost use Rattle.std.specs.Prelude.{◌≡◌, ◌≤◌, ◌<◌, false, map, length};
+ghost use Rattle.std.specs.Prelude.{◌≡◌, ◌≤◌, false, map, length};
 ghost use Rattle.store.specs.Schedules.{call_of};
 ghost use Rattle.casetext.specs.Numerals.{numeral};
 ghost use Rattle.casetext.specs.Layout.{head_text, turn_text, do_texts};
@@ -8,38 +8,14 @@ ghost use Rattle.casetext.specs.Written.{some_nine};
 
 use crate::spelling::{ASK, CEILING, CLAIMANTS, DO, LEAVE, SESSION, STEP};
 use rules::Call;
-use store::Entry;
+use store::decoded;
 
-// The digits of a number that has up to five.
-fn few_digits(n: u32) -> usize
-    requires { n < 100000 }
-    ensures value { result ≡ length (numeral n) }
-    ensures upper_bound { result ≤ 5 }
-{
-    if n < 10 {
-        return 1;
-    }
-    if n < 100 {
-        return 2;
-    }
-    if n < 1000 {
-        return 3;
-    }
-    if n < 10000 {
-        return 4;
-    }
-    5
-}
-
-// The digits of any number.
-fn digits(n: u32) -> usize
+// How many digits a number has.
+pub(crate) fn digits(n: u32) -> usize
     ensures value { result ≡ length (numeral n) }
     ensures upper_bound { result ≤ 10 }
 {
-    if n < 100000 {
-        return few_digits(n);
-    }
-    5 + few_digits(n / 100000)
+    n.max(1).ilog10() as usize + 1
 }
 
 // The first two lines.
@@ -72,13 +48,10 @@ pub(crate) fn lines_size(schedule: &[u32]) -> usize
     ensures upper_bound { result ≤ 59392 }
 {
     let mut bytes = 0;
-    let mut i = 0;
-    while i < schedule.len() {
-        let Entry::Made(call) = Entry::decoded(schedule[i]) else {
-            return bytes;
-        };
-        bytes += DO.len() + turn_size(call) + 1;
-        i += 1;
+    for entry in schedule {
+        if let Ok(call) = decoded(*entry) {
+            bytes += DO.len() + turn_size(call) + 1;
+        }
     }
     bytes
 }

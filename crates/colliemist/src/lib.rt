@@ -2,13 +2,14 @@
 #![tactic(auto)]
 
 ghost use Rattle.std.specs.Prelude.{◌≡◌, ◌≤◌, pos, neg_ℤ};
+ghost use Rattle.rules.specs.Answers.{refusal_number};
 ghost use Rattle.casetext.specs.Answers.{reading_line};
 ghost use Rattle.casetext.specs.Reading.{read_into, told, row_after};
 ghost use Rattle.casetext.specs.Report.{reported, report_row};
 ghost use Rattle.casetext.specs.Written.{written, written_row};
 ghost use Rattle.colliemist.specs.Count.{counted, bytes_or, entries_or, claimants_or, ceiling_or};
 
-use casetext::{Reading, Reported, Written};
+use rules::Refusal;
 
 // A count that no limit of document 01 lets pass 32,768.
 fn count(n: usize) -> i64
@@ -19,10 +20,10 @@ fn count(n: usize) -> i64
 }
 
 // A refusal, which no count looks like.
-fn minus(number: u8) -> i64
-    ensures { result ≡ neg_ℤ (pos number) }
+fn minus(refusal: Refusal) -> i64
+    ensures { result ≡ neg_ℤ (pos (refusal_number refusal)) }
 {
-    0 - number as i64
+    0 - u8::from(refusal) as i64
 }
 
 // Writes the report of a case text into a lent row and gives its number of bytes, which is at least 1. A row of under 153,609
@@ -31,8 +32,8 @@ pub fn colliemist_report(text: &[u8], out: &mut [u8]) -> u64
     ensures { (result ≡ counted (reported out.old text.now)) × (out.new ≡ report_row out.old text.now) }
 {
     match casetext::report(text, out) {
-        Reported::Printed(bytes) => bytes as u64,
-        Reported::Short => 0,
+        Some(bytes) => bytes as u64,
+        None => 0,
     }
 }
 
@@ -49,19 +50,15 @@ pub fn colliemist_read(
     ensures { (result ≡ entries_or (told (read_into entries.old text.now))) × (entries.new ≡ row_after (read_into entries.old text.now) entries.old) × (claimants.new ≡ claimants_or claimants.old (told (read_into entries.old text.now))) × (ceiling.new ≡ ceiling_or ceiling.old (told (read_into entries.old text.now))) × (line.new ≡ reading_line (told (read_into entries.old text.now))) }
 {
     match casetext::read(text, entries) {
-        Reading::Case {
-            claimants: n,
-            ceiling: k,
-            count: entries_read,
-        } => {
-            *claimants = n;
-            *ceiling = k;
+        Ok(case) => {
+            *claimants = case.claimants;
+            *ceiling = case.ceiling;
             *line = 0;
-            count(entries_read)
+            count(case.count)
         }
-        Reading::Refused { number, line: at } => {
-            *line = at;
-            minus(number)
+        Err(fault) => {
+            *line = fault.line;
+            minus(fault.refusal)
         }
     }
 }
@@ -72,7 +69,7 @@ pub fn colliemist_write(claimants: u32, ceiling: u32, schedule: &[u32], out: &mu
     ensures { (result ≡ bytes_or (written claimants ceiling schedule.now out.old)) × (out.new ≡ written_row claimants ceiling schedule.now out.old) }
 {
     match casetext::write(claimants, ceiling, schedule, out) {
-        Written::Bytes(bytes) => count(bytes),
-        Written::Refused(number) => minus(number),
+        Ok(bytes) => count(bytes),
+        Err(refusal) => minus(refusal),
     }
 }

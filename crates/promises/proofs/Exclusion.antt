@@ -41,7 +41,8 @@ fair_next {n} {c} {at} (moves s m) f i j a b d e g =
 fair_after : {n : ℕ} {k : Terms} {t : Table} (cs : List Call) → Sound n k t → Fair n (record_of t) → Fair n (record_of (after k cs t))
 unfolding after
 fair_after [] s f = f
-fair_after {n} {k} {t} (c ∷ cs) s f = fair_after {n = n} {k = k} {t = (called k c t).table} cs (sound_called c s) (fair_next (rw s.length_is at (next k c t)) f)
+fair_after {n} {k} {t} (c ∷ cs) s f =
+    fair_after {n = n} {k = k} {t = (called k c t).table} cs (sound_called c s) (fair_next (rw s.length_is at (next k c t)) f)
 
 fair_opened : (n : ℕ) → Fair n (record_of (opened n))
 fair_opened n i j a b c d h = rw (opened_row n i) (not_begun (λ q. omega (arith, q.low)))

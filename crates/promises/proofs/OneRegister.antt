@@ -5,30 +5,34 @@ use Prim.Native.Nat.{ℕ}
 use native.Mathlib.Omega.{arith}
 use lib.Dec.{eqb, leb, ltb}
 use borrow.Author.Tests.{leb-true, leb-false}
-use Rattle.rules.specs.Tests.{◌or◌, first}
+use Rattle.std.specs.Prelude.{Option, None, Some, is_some, Ok, Err}
+use Rattle.rules.specs.Tests.{◌or◌, Verdict}
 use Rattle.rules.specs.Records.{placed, with_want}
-use Rattle.rules.specs.Places.{Place, place_at}
-use Rattle.rules.specs.Places.Place.{rest, sign, raise, scan, take, lower, see_choosing, see_session, see_token, see_again, inside, drop_token, drop_session, nowhere}
-use Rattle.rules.specs.Rules.{conflict, before, reads, read_at, holds, passed, reached, stepped, unless, asked, step_refusals, step_taken, left}
+use Rattle.rules.specs.Places.{place_at}
+use Rattle.rules.specs.declared.Place.{Place}
+use Rattle.rules.specs.declared.Place.TheVariants.{Rest, Sign, Raise, Scan, Take, Lower, SeeChoosing, SeeSession, SeeToken, SeeAgain, Inside}
+use Rattle.rules.specs.declared.Place.TheVariants.{DropToken, DropSession, Nowhere}
+use Rattle.rules.specs.Rules.{conflict, before, reads, read_at, holds, passed, reached, refused, stepped, unless, asked, step_refusals, step_taken}
+use Rattle.rules.specs.Rules.{left}
 use Rattle.rules.specs.Tables.{turn}
 use Rattle.rules.specs.declared.Claimant.{Claimant}
 use Rattle.rules.specs.declared.Terms.{Terms}
 use Rattle.rules.specs.declared.Turn.{Turn}
 use Rattle.rules.specs.declared.Register.{Register}
-use Rattle.rules.specs.declared.Register.TheVariants.{Nothing, Choosing, Session, Token}
-use Rattle.rules.proofs.Choices.{decide, true_not_false}
+use Rattle.rules.proofs.Choices.{decide, true_not_false, judged}
 use Rattle.rules.proofs.Shapes.{◌&◌, between}
-use Rattle.promises.specs.OneRegister.{write_at, writes, shared, written, is_write, is_read, ReadsOrWrites, WritesOne, ValueIgnored, SeesOne, AskTouchesNone, LeaveTouchesNone, OthersUntouched}
+use Rattle.promises.specs.OneRegister.{write_at, writes, shared, written, Accepted, is_write, ReadsOrWrites, WritesOne, ValueIgnored}
+use Rattle.promises.specs.OneRegister.{SeesOne, AskTouchesNone, LeaveTouchesNone, OthersUntouched}
 use Rattle.promises.proofs.Steps.{unmoved}
 
-take_writes : (k : Terms) (c : Claimant) → is_write (write_at take k c) ≡ true
+take_writes : (k : Terms) (c : Claimant) → is_write (write_at Take k c) ≡ true
 unfolding write_at
 take_writes k c = decide (ltb c.seen k.ceiling) (λ e. rw e) (λ e. rw e)
 
 pub reads_or_writes : ReadsOrWrites
 unfolding ReadsOrWrites reads read_at writes write_at place_at
 reads_or_writes k c h a b =
-    let Fine : Claimant → Type 0 = λ c. is_read (reads c) ≡ not (is_write (writes k c)) in
+    let Fine : Claimant → Type 0 = λ c. is_some (reads c) ≡ not (is_write (writes k c)) in
     decide (leb c.place 9)
     (λ e.
     between Fine c 1 9 (omega arith) (omega (arith, leb-true c.place 9 e))
@@ -42,42 +46,41 @@ passed_keeps n c = decide (eqb c.other n) (λ e. rw e) (λ e. rw e)
 -- What a step that nothing refuses does at each place: its one write; and without a read the values given do not matter.
 record Acts (n : ℕ) (k : Terms) (i v v' : ℕ) (p : Place) (c : Claimant) : Type 0 where
   writes_it : shared (stepped p n k i v c).after ≡ written (write_at p k c) (shared c)
-  ignores : is_read (read_at p c.other) ≡ false → stepped p n k i v c ≡ stepped p n k i v' c
+  ignores : is_some (read_at p c.other) ≡ false → stepped p n k i v c ≡ stepped p n k i v' c
 
 acts : (n : ℕ) (k : Terms) (i v v' : ℕ) (p : Place) (c : Claimant) → Acts n k i v v' p c
 unfolding stepped write_at read_at
-acts n k i v v' rest c = record { writes_it = refl; ignores = λ e. refl }
-acts n k i v v' sign c = record { writes_it = refl; ignores = λ e. refl }
-acts n k i v v' raise c = record { writes_it = refl; ignores = λ e. refl }
-acts n k i v v' scan c = record { writes_it = decide (eqb c.other n) (λ e. rw e) (λ e. rw e); ignores = true_not_false }
-acts n k i v v' take c = record { writes_it = decide (ltb c.seen k.ceiling) (λ e. rw e) (λ e. rw e); ignores = λ e. refl }
-acts n k i v v' lower c = record { writes_it = refl; ignores = λ e. refl }
-acts n k i v v' see_choosing c = record { writes_it = refl; ignores = true_not_false }
-acts n k i v v' see_session c = record { writes_it = refl; ignores = true_not_false }
-acts n k i v v' see_token c =
+acts n k i v v' Rest c = record { writes_it = refl; ignores = λ e. refl }
+acts n k i v v' Sign c = record { writes_it = refl; ignores = λ e. refl }
+acts n k i v v' Raise c = record { writes_it = refl; ignores = λ e. refl }
+acts n k i v v' Scan c = record { writes_it = decide (eqb c.other n) (λ e. rw e) (λ e. rw e); ignores = true_not_false }
+acts n k i v v' Take c = record { writes_it = decide (ltb c.seen k.ceiling) (λ e. rw e) (λ e. rw e); ignores = λ e. refl }
+acts n k i v v' Lower c = record { writes_it = refl; ignores = λ e. refl }
+acts n k i v v' SeeChoosing c = record { writes_it = refl; ignores = true_not_false }
+acts n k i v v' SeeSession c = record { writes_it = refl; ignores = true_not_false }
+acts n k i v v' SeeToken c =
     record {
       writes_it = decide (eqb v 0 or before c.token i v c.other) (λ e. rw e (passed_keeps n c)) (λ e. rw e);
       ignores = true_not_false;
     }
-acts n k i v v' see_again c =
+acts n k i v v' SeeAgain c =
     record { writes_it = decide (conflict v c.want) (λ e. rw e) (λ e. rw e (passed_keeps n c)); ignores = true_not_false }
-acts n k i v v' inside c = record { writes_it = refl; ignores = λ e. refl }
-acts n k i v v' drop_token c = record { writes_it = refl; ignores = λ e. refl }
-acts n k i v v' drop_session c = record { writes_it = refl; ignores = λ e. refl }
-acts n k i v v' nowhere c = record { writes_it = refl; ignores = λ e. refl }
+acts n k i v v' Inside c = record { writes_it = refl; ignores = λ e. refl }
+acts n k i v v' DropToken c = record { writes_it = refl; ignores = λ e. refl }
+acts n k i v v' DropSession c = record { writes_it = refl; ignores = λ e. refl }
+acts n k i v v' Nowhere c = record { writes_it = refl; ignores = λ e. refl }
 
 pub writes_one : WritesOne
 unfolding WritesOne step_taken unless writes
 writes_one n k i v c =
-    decide (eqb (first (step_refusals n k i v c)) 0)
-    (λ e. rw e (λ a. (acts n k i v v (place_at c.place) c).writes_it))
-    (λ e. rw e (λ a. absurd a))
+    judged (λ r. Accepted r.answer → shared r.after ≡ written (writes k c) (shared c)) (stepped (place_at c.place) n k i v c) (refused c)
+    (step_refusals n k i v c)
+    (λ g a. (acts n k i v v (place_at c.place) c).writes_it)
+    (λ g r e a. absurd a)
 
-holds_unread : (r : Register) (k : Terms) (v v' : ℕ) → is_read r ≡ false → holds r k v ≡ holds r k v'
-holds_unread Nothing k v v' e = refl
-holds_unread (Choosing o) k v v' e = true_not_false e
-holds_unread (Session o) k v v' e = true_not_false e
-holds_unread (Token o) k v v' e = true_not_false e
+holds_unread : (r : Option Register) (k : Terms) (v v' : ℕ) → is_some r ≡ false → holds r k v ≡ holds r k v'
+holds_unread None k v v' e = refl
+holds_unread (Some r) k v v' e = true_not_false e
 
 pub value_ignored : ValueIgnored
 unfolding ValueIgnored step_taken reads
@@ -88,9 +91,10 @@ unfolding SeesOne turn
 sees_one k w t t' l e v = rw (v, l, e)
 
 -- Accepted or refused, the registers are as they were.
-untouched : (r : ℕ) (c : Claimant) (t : Turn) → shared t.after ≡ shared c → shared (unless r c t).after ≡ shared c
+untouched : (v : Verdict) (c : Claimant) (t : Turn) → shared t.after ≡ shared c → shared (unless v c t).after ≡ shared c
 unfolding unless
-untouched r c t h = decide (eqb r 0) (λ e. rw e h) (λ e. rw e)
+untouched (Ok u) c t h = h
+untouched (Err r) c t h = refl
 
 pub ask_touches_none : AskTouchesNone
 unfolding AskTouchesNone asked

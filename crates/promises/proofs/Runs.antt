@@ -1,25 +1,25 @@
 -- A run makes the calls of its entries, one after the other, and answers each.
 use mathlib.Core.Path.{◌≡◌, refl, ap, ◌∙◌}
-use mathlib.Core.Bool.{not, false}
+use mathlib.Core.Bool.{false}
 use mathlib.Core.List.{List, [], ◌∷◌, ◌++◌, map}
 use mathlib.Core.Logic.{◌⊎◌, inl, inr}
 use Prim.Native.Nat.{ℕ, zero, suc, ◌≤◌, ◌<◌}
 use native.Mathlib.Omega.{arith}
-use lib.Dec.{eqb, ltb}
+use lib.Dec.{ltb}
 use lib.ListN.{length, get_or, take, drop, length-take}
 use lib.Seq.{take-suc, take_all}
 use borrow.Author.Tests.{ne_eqb, le-ltb, ltb-true, ltb-false}
-use Rattle.rules.specs.Tests.{first}
+use Rattle.std.specs.Prelude.{Ok, Err}
+use Rattle.rules.specs.Tests.{Verdict, first}
 use Rattle.rules.specs.Answers.{byte_of}
-use Rattle.rules.specs.Tables.{Table, opened, all_well_formed, called, after, Sound}
+use Rattle.rules.specs.Tables.{Table, opened, called, after, Sound}
 use Rattle.rules.specs.declared.Terms.{Terms}
 use Rattle.rules.specs.declared.Call.{Call}
 use Rattle.rules.proofs.Choices.{decide, within_holds}
 use Rattle.rules.proofs.Rows.{after_append, opened_sound}
 use Rattle.rules.proofs.Keeping.{sound_after}
 use Rattle.store.specs.Schedules.{is_nine, call_of, decoded, entered, ran, answered}
-use Rattle.store.specs.Runs.{Ran, run_refusal, running}
-use Rattle.store.specs.declared.Outcome.TheVariants.{Done}
+use Rattle.store.specs.Runs.{Ran, ran_unless, run_refusal, running}
 use Rattle.store.proofs.Laws.{entry_is}
 use Rattle.promises.specs.Sequences.{place_of, at_odds}
 use Rattle.promises.specs.Fairness.{Exclusion}
@@ -48,17 +48,16 @@ run_makes_calls k es fs t =
     rw (ran_append k es fs t, after_append k (calls_in es) (calls_in fs) t, ran_calls k es t) (ran_calls k fs (after k (calls_in es) t))
 
 -- What holds after all calls, none among them, holds after a run.
-after_run : (P : Table → Type 0) (k : Terms) (es row : List ℕ) (t : Table) → ((cs : List Call) → P (after k cs t)) → P (running k es row t).rows
-unfolding running after
-after_run P k es row t h =
-    decide (eqb (run_refusal (length t) k (not (all_well_formed (length t) k t)) (length es) (length row)) 0)
-    (λ e. rw (e, ran_calls k es t) (h (calls_in es)))
-    (λ e. rw e (h []))
+after_run : (P : Table → Type 0) (v : Verdict) (k : Terms) (es row : List ℕ) (t : Table) → ((cs : List Call) → P (after k cs t))
+    → P (ran_unless v k es row t).rows
+unfolding after
+after_run P (Ok u) k es row t h = rw (ran_calls k es t) (h (calls_in es))
+after_run P (Err r) k es row t h = h []
 
 pub run_excludes : RunExcludes
-unfolding RunExcludes Exclusion
+unfolding RunExcludes Exclusion running
 run_excludes n k o es row i j =
-    after_run (λ t. place_of t i ≡ 10 → place_of t j ≡ 10 → at_odds t i j ≡ false) k es row (opened n) (λ cs. exclusion n k o cs i j)
+    after_run (λ t. place_of t i ≡ 10 → place_of t j ≡ 10 → at_odds t i j ≡ false) _ k es row (opened n) (λ cs. exclusion n k o cs i j)
 
 -- The answer to the entry after the first i.
 answer_at : (k : Terms) (es rest : List ℕ) (t : Table) (i : ℕ) → i < length es
@@ -81,7 +80,7 @@ module _ (r : FreshRun) where
 
   pub accepted_run : (fs : List ℕ) → length fs ≤ length r.row
       → running k fs r.row start
-      ≡ record { rows = ran k fs start; answers = map byte_of (answered k fs start) ++ drop (length fs) r.row; outcome = Done }
+      ≡ record { rows = ran k fs start; answers = map byte_of (answered k fs start) ++ drop (length fs) r.row; outcome = Ok tt }
   unfolding running run_refusal first
   accepted_run fs h =
       let n = r.claimants in
@@ -125,8 +124,8 @@ module _ (r : FreshRun) where
 
 pub refused_in_run : RefusedInRun
 unfolding RefusedInRun EntryRefused RefusedAnswers
-refused_in_run r i x h e l =
+refused_in_run r i x h e =
     let k = r.terms in
     let f = entry_refused k (entry_at r i) (table_at r i) in
-    let q = (f.exactly x).1 (l, e) in
+    let q = (f.exactly x).1 e in
     (table_next r i h ∙ f.unchanged x q, answer_is r i h ∙ (refused_answers k (entry_at r i) (table_at r i) x q).1)

@@ -29,7 +29,8 @@ own_next {c} i (moves s m) =
     (λ e. let q = eqb-true i (caller c) e in inr (sym q, rw (← q) at s, own_move q m))
     (λ e. inl (m.others i (eqb-false i (caller c) e)))
 
-pub unmoved : (k : Terms) (c : Call) (t : Table) (i : ℕ) → (caller c ≡ i → ¬ (Begins c (record_of t i))) → record_of (called k c t).table i ≡ record_of t i
+pub unmoved : (k : Terms) (c : Call) (t : Table) (i : ℕ) → (caller c ≡ i → ¬ (Begins c (record_of t i)))
+    → record_of (called k c t).table i ≡ record_of t i
 unmoved k c t i h = elim (own_next i (next k c t)) [
   | inl e ↦ e
   | inr m ↦ absurd (h m.0 m.1)

@@ -10,7 +10,6 @@ use Rattle.rules.specs.declared.Terms.{Terms}
 use Rattle.store.specs.Schedules.{claimant_in, decoded, entered, ran}
 use Rattle.store.specs.Runs.{Ran, running}
 use Rattle.store.specs.Trials.{five, traced}
-use Rattle.store.specs.Answers.{outcome_number}
 use Rattle.promises.specs.Refusals.{EntryAnswers}
 use Rattle.promises.specs.Runs.{table_at, entry_at, TraceShowsRun}
 use Rattle.promises.proofs.Refusals.{entry_answers}
@@ -39,7 +38,7 @@ trace_shows_run r =
     let es = r.schedule in
     let start = opened r.claimants in
     record {
-      accepted = ap (λ (x : Ran). outcome_number x.outcome) (accepted_run r es r.room);
+      accepted = ap (λ (x : Ran). x.outcome) (accepted_run r es r.room);
       entries = λ i h. record {
         numbers =
             trace_at k es start i h

@@ -8,41 +8,45 @@ use Rattle.rules.specs.Records.{claimant}
 use Rattle.rules.specs.Tables.{opened, record_of, after}
 use Rattle.rules.specs.declared.Terms.{Terms}
 use Rattle.rules.specs.declared.Call.TheVariants.{Ask, Step, Leave}
-use Rattle.rules.proofs.Shapes.{◌&◌, each}
+use Rattle.rules.specs.Answers.{refusal_number}
+use Rattle.rules.specs.declared.Refusal.{Refusal}
+use Rattle.rules.specs.declared.Refusal.TheVariants.{RowCount, NoCeiling, Broken, NoClaimant, NoSession, NotAtRest, NotInside, NoStep, NoCall, NoRoom}
+use Rattle.rules.specs.declared.Refusal.TheVariants.{TooLong, BadLine, TooManyLines}
+use Rattle.rules.proofs.Shapes.{each}
 use Rattle.rules.proofs.Rows.{opened_sound}
 use Rattle.rules.proofs.Keeping.{sound_after}
-use Rattle.store.specs.Schedules.{decoded, entered, ran, answered}
-use Rattle.store.specs.Runs.{run_refusal, running}
 use Rattle.promises.specs.Sequences.{place_of, count, step_of, leaves}
 use Rattle.promises.specs.Fairness.{overtakes, signs}
 use Rattle.promises.specs.Runs.{FreshRun, table_at}
 use Rattle.promises.specs.Situations.{ask, step, steps}
 use Rattle.promises.specs.Waiting.{Unopposed, turns_away}
 use Rattle.promises.specs.Witnesses.{SomeCall, SomeRefused, SomeTogether, SomeOvertaken, SomeRunOvertaken, SomeBehind, SomeFree}
-use Rattle.promises.proofs.Computing.{computing}
+use Rattle.promises.proofs.Computing.{computing, computing_runs}
 use Rattle.promises.proofs.Always.{always, throughout, waiting, calm, unopposed}
 
 k : Terms
 k = record { ceiling = 9 }
 
--- A call for each of 1 to 8, in their order, an entry and a run.
+-- A call for each of 1 to 8, an entry and a run.
+some_call : (r : Refusal) → refusal_number r ≤ 8 → SomeCall r
+unfolding computing k
+some_call RowCount h = (k, Step 1, [], refl)
+some_call NoCeiling h = (record { ceiling = 0 }, Step 1, opened 1, refl)
+some_call Broken h = (k, Step 1, claimant 13 0 0 0 0 0 0 ∷ [], refl)
+some_call NoClaimant h = (k, Step 2, opened 1, refl)
+some_call NoSession h = (k, Ask 1 0, opened 1, refl)
+some_call NotAtRest h = (k, Ask 1 7, claimant 1 0 0 0 7 0 0 ∷ [], refl)
+some_call NotInside h = (k, Leave 1, opened 1, refl)
+some_call NoStep h = (k, Step 1, opened 1, refl)
+some_call NoCall h = absurd (omega arith)
+some_call NoRoom h = absurd (omega arith)
+some_call TooLong h = absurd (omega arith)
+some_call BadLine h = absurd (omega arith)
+some_call TooManyLines h = absurd (omega arith)
+
 pub some_refused : SomeRefused
-unfolding SomeRefused computing decoded entered run_refusal running k
-some_refused = (
-  λ r a b.
-      each SomeCall 1 8
-      ((k, Step 1, [], refl) &
-      (record { ceiling = 0 }, Step 1, opened 1, refl) &
-      (k, Step 1, claimant 13 0 0 0 0 0 0 ∷ [], refl) &
-      (k, Step 2, opened 1, refl) &
-      (k, Ask 1 0, opened 1, refl) &
-      (k, Ask 1 7, claimant 1 0 0 0 7 0 0 ∷ [], refl) &
-      (k, Leave 1, opened 1, refl) &
-      (k, Step 1, opened 1, refl) &
-      tt) r a (omega arith),
-  (k, 50397184, opened 1, refl),
-  (k, step 1 ∷ [], [], opened 1, refl),
-)
+unfolding SomeRefused computing_runs k
+some_refused = (some_call, (k, 50397184, opened 1, refl), (k, step 1 ∷ [], [], opened 1, refl))
 
 -- 1 goes inside, and 2 after it.
 pub some_together : SomeTogether
@@ -64,7 +68,7 @@ some_overtaken =
 
 -- The same as a run, as far as the entry that takes 1 inside.
 pub some_run_overtaken : SomeRunOvertaken
-unfolding SomeRunOvertaken computing decoded entered ran answered run_refusal running table_at k
+unfolding SomeRunOvertaken computing_runs table_at k
 some_run_overtaken =
     let run : FreshRun =
     record {

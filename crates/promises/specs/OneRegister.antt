@@ -1,16 +1,16 @@
 -- One register a step: which one it reads or writes, and that nothing else of the table matters to it or is changed by it.
-use Rattle.std.specs.Prelude.{ℕ, ◌+◌, ◌≤◌, Bool, true, false, not, ◌≢◌, ◌≡◌, ltb, length}
+use Rattle.std.specs.Prelude.{ℕ, ◌+◌, ◌≤◌, Bool, true, false, not, ◌≢◌, ◌≡◌, ltb, length, is_some}
 use Rattle.rules.specs.Tests.{pick}
-use Rattle.rules.specs.Places.{Place, place_at}
-use Rattle.rules.specs.Places.Place.{rest, sign, raise, scan, take, lower, see_choosing, see_session, see_token, see_again, inside, drop_token, drop_session, nowhere}
+use Rattle.rules.specs.Places.{place_at}
 use Rattle.rules.specs.Rules.{reads, asked, step_taken, left}
 use Rattle.rules.specs.Tables.{Table, record_of, value_read, caller, turn, called}
+use Rattle.rules.specs.declared.Place.{Place}
+use Rattle.rules.specs.declared.Place.TheVariants.{Rest, Sign, Raise, Scan, Take, Lower, SeeChoosing, SeeSession, SeeToken, SeeAgain, Inside}
+use Rattle.rules.specs.declared.Place.TheVariants.{DropToken, DropSession, Nowhere}
 use Rattle.rules.specs.declared.Claimant.{Claimant}
 use Rattle.rules.specs.declared.Terms.{Terms}
 use Rattle.rules.specs.declared.Answer.{Answer}
 use Rattle.rules.specs.declared.Answer.TheVariants.{Reached, TurnedAway, Refused}
-use Rattle.rules.specs.declared.Register.{Register}
-use Rattle.rules.specs.declared.Register.TheVariants.{Nothing, Choosing, Session, Token}
 use Rattle.rules.specs.declared.Call.{Call}
 use Rattle.rules.specs.declared.Call.TheVariants.{Step}
 
@@ -21,20 +21,20 @@ pub data Write : Type 0 where
 
 -- The write of each place, as 01 lists it.
 unfoldable pub write_at : Place → Terms → Claimant → Write
-write_at rest k c = no_write
-write_at sign k c = to_session c.want
-write_at raise k c = to_choosing 1
-write_at scan k c = no_write
-write_at take k c = pick (ltb c.seen k.ceiling) (to_token (c.seen + 1)) (to_choosing 0)
-write_at lower k c = to_choosing 0
-write_at see_choosing k c = no_write
-write_at see_session k c = no_write
-write_at see_token k c = no_write
-write_at see_again k c = no_write
-write_at inside k c = no_write
-write_at drop_token k c = to_token 0
-write_at drop_session k c = to_session 0
-write_at nowhere k c = no_write
+write_at Rest k c = no_write
+write_at Sign k c = to_session c.want
+write_at Raise k c = to_choosing 1
+write_at Scan k c = no_write
+write_at Take k c = pick (ltb c.seen k.ceiling) (to_token (c.seen + 1)) (to_choosing 0)
+write_at Lower k c = to_choosing 0
+write_at SeeChoosing k c = no_write
+write_at SeeSession k c = no_write
+write_at SeeToken k c = no_write
+write_at SeeAgain k c = no_write
+write_at Inside k c = no_write
+write_at DropToken k c = to_token 0
+write_at DropSession k c = to_session 0
+write_at Nowhere k c = no_write
 
 unfoldable pub writes : Terms → Claimant → Write
 writes k c = write_at (place_at c.place) k c
@@ -60,15 +60,9 @@ is_write (to_session v) = true
 is_write (to_choosing v) = true
 is_write (to_token v) = true
 
-abbrev pub is_read : Register → Bool
-is_read Nothing = false
-is_read (Choosing o) = true
-is_read (Session o) = true
-is_read (Token o) = true
-
 -- Wherever a step is taken it reads one register or writes one, and not both.
 unfoldable pub ReadsOrWrites : Type 0
-ReadsOrWrites = (k : Terms) (c : Claimant) → c.place ≤ 12 → c.place ≢ 0 → c.place ≢ 10 → is_read (reads c) ≡ not (is_write (writes k c))
+ReadsOrWrites = (k : Terms) (c : Claimant) → c.place ≤ 12 → c.place ≢ 0 → c.place ≢ 10 → is_some (reads c) ≡ not (is_write (writes k c))
 
 abbrev pub Accepted : Answer → Type 0
 Accepted (Reached p) = Unit {0}
@@ -87,7 +81,7 @@ WritesOne =
 unfoldable pub ValueIgnored : Type 0
 ValueIgnored =
     (n : ℕ) (k : Terms) (number v v' : ℕ) (c : Claimant) →
-    is_read (reads c) ≡ false →
+    is_some (reads c) ≡ false →
     step_taken n k number v c ≡ step_taken n k number v' c
 
 -- .. and where it reads, two tables that agree on the own record and on the one value read give it the same turn.

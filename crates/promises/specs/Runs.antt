@@ -1,13 +1,15 @@
--- Runs: one is such a sequence of calls, and what is promised of those is promised of the tables and answers that `run` gives back, and of what is printed.
-use Rattle.std.specs.Prelude.{ℕ, suc, ◌+◌, ◌*◌, ◌≤◌, ◌<◌, true, false, List, [], ◌∷◌, ◌++◌, ◌≢◌, ◌≡◌, length, get_or, take, drop}
+-- Runs: one is such a sequence of calls, and what is promised of those is promised of the tables and answers that `run` gives back, and of what
+-- is printed.
+use Rattle.std.specs.Prelude.{ℕ, suc, ◌+◌, ◌*◌, ◌≤◌, ◌<◌, true, false, List, [], ◌∷◌, ◌++◌, ◌≢◌, ◌≡◌, length, get_or, take, drop, Ok, Err}
 use Rattle.rules.specs.Tests.{pick, first}
+use Rattle.rules.specs.Answers.{refusal_number}
 use Rattle.rules.specs.Tables.{Table, opened, record_of, after, Opens}
 use Rattle.rules.specs.declared.Terms.{Terms}
 use Rattle.rules.specs.declared.Call.{Call}
+use Rattle.rules.specs.declared.Refusal.{Refusal}
 use Rattle.store.specs.Schedules.{claimant_in, is_nine, call_of, ran}
 use Rattle.store.specs.Runs.{Ran, running}
 use Rattle.store.specs.Trials.{traced}
-use Rattle.store.specs.Answers.{outcome_number}
 use Rattle.promises.specs.Sequences.{place_of, at_odds}
 use Rattle.promises.specs.Refusals.{entry_refusals}
 
@@ -53,21 +55,20 @@ table_at r m = (running r.terms (take m r.schedule) r.row (opened r.claimants)).
 abbrev pub entry_at : FreshRun → (i : ℕ) → ℕ
 entry_at r i = get_or r.schedule i 0
 
--- A refused entry changes no record, is answered 32 + x, and the run goes on.
+-- An entry refused with x changes no record, is answered 32 + 01's number of x, and the run goes on.
 unfoldable pub RefusedInRun : Type 0
 RefusedInRun =
-    (r : FreshRun) (i x : ℕ) →
+    (r : FreshRun) (i : ℕ) (x : Refusal) →
     i < length r.schedule →
-    first (entry_refusals r.terms (entry_at r i) (table_at r i)) ≡ x →
-    1 ≤ x →
-    (table_at r (suc i) ≡ table_at r i) × (get_or (whole r).answers i 0 ≡ 32 + x)
+    first (entry_refusals r.terms (entry_at r i) (table_at r i)) ≡ Err x →
+    (table_at r (suc i) ≡ table_at r i) × (get_or (whole r).answers i 0 ≡ 32 + refusal_number x)
 
 -- The numbers that `boardcase` prints.
 abbrev pub trace : FreshRun → List ℕ
 trace r = traced r.terms r.schedule (opened r.claimants)
 
--- Five of the entry after the first i: place, Session, Choosing and Token of the claimant that it names, in the table that the run has come to by it, and the byte
--- that the run answers. That table is the one after the calls made so far.
+-- Five of the entry after the first i: place, Session, Choosing and Token of the claimant that it names, in the table that the run has come to by
+-- it, and the byte that the run answers. That table is the one after the calls made so far.
 pub record Shows (r : FreshRun) (i : ℕ) : Type 0 where
   pub numbers :
       let c = record_of (table_at r (suc i)) (claimant_in (entry_at r i)) in
@@ -76,7 +77,7 @@ pub record Shows (r : FreshRun) (i : ℕ) : Type 0 where
 
 -- The run is accepted, nothing else is printed, and the last of these tables is the one that the run gives back.
 pub record TraceShows (r : FreshRun) : Type 0 where
-  pub accepted : outcome_number (whole r).outcome ≡ 0
+  pub accepted : (whole r).outcome ≡ Ok tt
   pub entries : (i : ℕ) → i < length r.schedule → Shows r i
   pub no_more : length (trace r) ≡ 5 * length r.schedule
   pub end : table_at r (length r.schedule) ≡ (whole r).rows

@@ -1,31 +1,33 @@
 -- That these things happen: the promises are not met by a lock in which nobody is refused, gets inside, waits or is overtaken.
-use Rattle.std.specs.Prelude.{ℕ, ◌≤◌, true, List, ◌∷◌, ◌++◌, ◌≢◌, ◌≡◌}
+use Rattle.std.specs.Prelude.{ℕ, ◌≤◌, true, List, ◌∷◌, ◌++◌, ◌≢◌, ◌≡◌, Err}
+use Rattle.rules.specs.Answers.{refusal_number}
 use Rattle.rules.specs.Tables.{Table, opened, record_of, called, after, Opens, Sound}
 use Rattle.rules.specs.declared.Terms.{Terms}
 use Rattle.rules.specs.declared.Call.{Call}
 use Rattle.rules.specs.declared.Call.TheVariants.{Ask, Leave}
+use Rattle.rules.specs.declared.Refusal.{Refusal}
+use Rattle.rules.specs.declared.Refusal.TheVariants.{NotAtRest, NotInside, NoCall, NoRoom}
 use Rattle.rules.specs.declared.Answer.TheVariants.{Refused}
 use Rattle.store.specs.Schedules.{decoded, entered}
 use Rattle.store.specs.Runs.{running}
-use Rattle.store.specs.Answers.{outcome_number}
 use Rattle.promises.specs.Sequences.{place_of, at_odds, count, step_of}
 use Rattle.promises.specs.Fairness.{Waits, doorway_ended, overtakes, signs}
 use Rattle.promises.specs.Runs.{FreshRun, WaitsInRun, OvertakesInRun}
 use Rattle.promises.specs.Waiting.{most_steps, Unhindered}
 
 -- Some call is refused with r, some entry, some run.
-abbrev pub SomeCall : (r : ℕ) → Type 0
+abbrev pub SomeCall : Refusal → Type 0
 SomeCall r = (k : Terms) × (c : Call) × (t : Table) × ((called k c t).answer ≡ Refused r)
 
-abbrev pub SomeEntry : (r : ℕ) → Type 0
+abbrev pub SomeEntry : Refusal → Type 0
 SomeEntry r = (k : Terms) × (e : ℕ) × (t : Table) × ((entered k (decoded e) t).answer ≡ Refused r)
 
-abbrev pub SomeRun : (r : ℕ) → Type 0
-SomeRun r = (k : Terms) × (schedule : List ℕ) × (row : List ℕ) × (t : Table) × (outcome_number (running k schedule row t).outcome ≡ r)
+abbrev pub SomeRun : Refusal → Type 0
+SomeRun r = (k : Terms) × (schedule : List ℕ) × (row : List ℕ) × (t : Table) × ((running k schedule row t).outcome ≡ Err r)
 
 -- Each of 1 to 8 is given to a call, 9 to an entry, 10 to a run.
 unfoldable pub SomeRefused : Type 0
-SomeRefused = ((r : ℕ) → 1 ≤ r → r ≤ 8 → SomeCall r) × SomeEntry 9 × SomeRun 10
+SomeRefused = ((r : Refusal) → refusal_number r ≤ 8 → SomeCall r) × SomeEntry NoCall × SomeRun NoRoom
 
 -- After these calls claimants 1 and 2 are inside together, under one session.
 pub record Together (n : ℕ) (k : Terms) (calls : List Call) : Type 0 where
@@ -76,8 +78,8 @@ SomeBehind =
 pub record Free (n : ℕ) (k : Terms) (s : ℕ) (calls : List Call) (t : Table) (i j : ℕ) : Type 0 where
   pub sound : Sound n k t
   pub unhindered : Unhindered n k (Ask i s ∷ Leave i ∷ calls) t i
-  pub ask_refused : (called k (Ask i s) t).answer ≡ Refused 6
-  pub leave_refused : (called k (Leave i) (called k (Ask i s) t).table).answer ≡ Refused 7
+  pub ask_refused : (called k (Ask i s) t).answer ≡ Refused NotAtRest
+  pub leave_refused : (called k (Leave i) (called k (Ask i s) t).table).answer ≡ Refused NotInside
   pub not_alone : 1 ≤ count (step_of j) k calls t
   pub apart : i ≢ j
 

@@ -1,5 +1,5 @@
 -- One call on a table: it is refused and nothing changes, or the caller's record moves and the others stay.
-use mathlib.Core.Path.{◌≡◌, refl, ap}
+use mathlib.Core.Path.{◌≡◌, refl, ap, ◌∙◌}
 use mathlib.Core.Bool.{Bool, true, false, not}
 use mathlib.Core.List.{List, [], ◌∷◌}
 use mathlib.Core.Logic.{◌≢◌}
@@ -8,21 +8,25 @@ use native.Mathlib.Omega.{arith}
 use lib.Dec.{eqb}
 use lib.ListN.{length, set, length-set}
 use borrow.Author.Tests.{eqb-true, eqb-false, eq-eqb, ne_eqb, le-leb, not-false}
-use Rattle.rules.specs.Tests.{◌and◌, ◌or◌, within, Refusal, ◌when◌, first}
+use Rattle.std.specs.Prelude.{Option, None, Some}
+use Rattle.rules.specs.Tests.{◌and◌, ◌or◌, within, Listed, ◌when◌, first}
 use Rattle.rules.specs.Records.{placed, with_want}
 use Rattle.rules.specs.Places.{is_session, place_at, well_formed}
-use Rattle.rules.specs.Answers.{number_of, byte_of}
+use Rattle.rules.specs.Answers.{refusal_number, number_of}
 use Rattle.rules.specs.Rules.{refusals, unless, reached, reads, value_in, holds, stepped, asked, step_taken, left}
-use Rattle.rules.specs.Tables.{Table, record_of, row_read, value_read, all_well_formed, caller, turn, Called, unless_refused, table_refusal, called, Opens, Sound}
+use Rattle.rules.specs.Tables.{Table, record_of, row_read, value_read, all_well_formed, caller, turn}
+use Rattle.rules.specs.Tables.{Called, unless_refused, table_refusal, called, Opens, Sound}
 use Rattle.rules.specs.declared.Claimant.{Claimant}
 use Rattle.rules.specs.declared.Terms.{Terms}
 use Rattle.rules.specs.declared.Turn.{Turn}
+use Rattle.rules.specs.declared.Refusal.{Refusal}
+use Rattle.rules.specs.declared.Refusal.TheVariants.{NoClaimant, NoSession, NotAtRest, NotInside, NoStep}
 use Rattle.rules.specs.declared.Answer.TheVariants.{Refused}
 use Rattle.rules.specs.declared.Call.{Call}
 use Rattle.rules.specs.declared.Call.TheVariants.{Ask, Step, Leave}
 use Rattle.rules.specs.declared.Register.{Register}
-use Rattle.rules.specs.declared.Register.TheVariants.{Nothing, Choosing, Session, Token}
-use Rattle.rules.proofs.Choices.{neither, within_true, within_holds, Numbered, NoneGiven, none_refuses, judged, first_small}
+use Rattle.rules.specs.declared.Register.TheVariants.{Choosing, Session, Token}
+use Rattle.rules.proofs.Choices.{neither, within_true, within_holds, Numbered, NoneGiven, none_refuses, first_append, judged, first_small}
 use Rattle.rules.proofs.Shapes.{Formed, well_formed_lem, Bounds, ◌&◌, between}
 use Rattle.rules.proofs.Moves.{Move, step_taken_lem}
 use Rattle.rules.proofs.Moves.Move.{edge}
@@ -37,18 +41,20 @@ Begins (Leave w) c = c.place ≡ 10
 
 -- The rule of a call on the caller's record: refused where the call does not begin, and else a move.
 pub data Turned (n : ℕ) (k : Terms) (at : ℕ → Claimant) (call : Call) (c : Claimant) : Turn → Type 0 where
-  refused : ¬ (Begins call c) → (r : ℕ) → r ≤ 9 → Turned n k at call c (record { after = c; answer = Refused r })
+  refused : ¬ (Begins call c) → (r : Refusal) → refusal_number r ≤ 9 → Turned n k at call c (record { after = c; answer = Refused r })
   moved : {r : Turn} → Begins call c → Move n k (caller call) at c r.after → number_of r.answer ≤ 31 → Turned n k at call c r
 
 -- What every call refuses is given to none that finds a sound table and has a row there.
-none_shared : {n : ℕ} {k : Terms} {w : ℕ} {broken : Bool} → Opens n k → 1 ≤ w → w ≤ n → broken ≡ false → NoneGiven (refusals n k w broken [])
+none_shared : {n : ℕ} {k : Terms} {w : ℕ} {broken : Bool} → Opens n k → 1 ≤ w → w ≤ n → broken ≡ false
+    → NoneGiven (refusals n k w broken [])
 unfolding refusals
 none_shared {n} {k} {w} o a b e = (
   ap not (within_holds 1 64 n o.some_row o.rows),
   (ne_eqb k.ceiling 0 (omega (arith, o.ceiling_set)), (e, (ap not (within_holds 1 n w a b), tt))),
 )
 
-pub shared_none : {n : ℕ} {k : Terms} {w : ℕ} {broken : Bool} → NoneGiven (refusals n k w broken []) → Opens n k × ((1 ≤ w) × (w ≤ n)) × (broken ≡ false)
+pub shared_none : {n : ℕ} {k : Terms} {w : ℕ} {broken : Bool} → NoneGiven (refusals n k w broken [])
+    → Opens n k × ((1 ≤ w) × (w ≤ n)) × (broken ≡ false)
 unfolding refusals
 shared_none {n} {k} {w} h =
     let l = within_true 1 64 n (not-false (within 1 64 n) h.0) in (
@@ -58,33 +64,34 @@ shared_none {n} {k} {w} h =
     )
 
 -- Then only what the call itself refuses decides.
-pub first_own : {n : ℕ} {k : Terms} {w : ℕ} {broken : Bool} (own : List Refusal) → Opens n k → 1 ≤ w → w ≤ n → broken ≡ false
+pub first_own : {n : ℕ} {k : Terms} {w : ℕ} {broken : Bool} (own : List Listed) → Opens n k → 1 ≤ w → w ≤ n → broken ≡ false
     → first (refusals n k w broken own) ≡ first own
-unfolding refusals first
-first_own own o a b e = let h = none_shared o a b e in rw (h.0, h.1.0, h.1.1.0, h.1.1.1.0)
+unfolding refusals
+first_own {n} {k} {w} {broken} own o a b e =
+    let shared = refusals n k w broken [] in first_append shared own ∙ rw (none_refuses shared (none_shared o a b e))
 
-pub value_holds : (k : Terms) (r : Register) (d : Claimant) → Bounds k d → holds r k (value_in r d) ≡ true
-value_holds k Nothing d b = refl
-value_holds k (Choosing o) d b = le-leb d.choosing 1 b.choosing
-value_holds k (Session o) d b = le-leb d.session 65535 b.session
-value_holds k (Token o) d b = le-leb d.token k.ceiling b.token
+pub value_holds : (k : Terms) (r : Option Register) (d : Claimant) → Bounds k d → holds r k (value_in r d) ≡ true
+value_holds k None d b = refl
+value_holds k (Some (Choosing o)) d b = le-leb d.choosing 1 b.choosing
+value_holds k (Some (Session o)) d b = le-leb d.session 65535 b.session
+value_holds k (Some (Token o)) d b = le-leb d.token k.ceiling b.token
 
 module _ (n : ℕ) (k : Terms) (w : ℕ) (at : ℕ → Claimant) (c : Claimant) (o : Opens n k) (a : 1 ≤ w) (b : w ≤ n) (f : Formed n k c) where
   -- What a call itself refuses is given to none that begins, and such a call makes a move.
-  judge : (call : Call) {broken : Bool} (own : List Refusal) (r : Turn) → broken ≡ false → Numbered own → (Begins call c → NoneGiven own)
+  judge : (call : Call) {broken : Bool} (own : List Listed) (r : Turn) → broken ≡ false → Numbered 9 own → (Begins call c → NoneGiven own)
       → (NoneGiven own → Begins call c × Move n k (caller call) at c r.after × (number_of r.answer ≤ 31))
       → Turned n k at call c (unless (first (refusals n k w broken own)) c r)
   unfolding unless
   judge call own r e p h g =
       rw (first_own own o a b e)
-      (judged (Turned n k at call c) r (record { after = c; answer = Refused (first own) }) own p
+      (judged (Turned n k at call c) r (λ x. record { after = c; answer = Refused x }) own
       (λ x. let y = g x in moved y.0 y.1 y.2)
-      (λ x. refused (λ y. x (h y)) (first own) (first_small own p)))
+      (λ x y e. refused (λ z. x (h z)) y (first_small 9 own p y e)))
 
   ask_turned : (s : ℕ) → Turned n k at (Ask w s) c (asked n k w s c)
   unfolding asked caller
   ask_turned s =
-      judge (Ask w s) (5 when not (is_session s) ∷ 6 when not (eqb c.place 0) ∷ []) (reached (placed 1 (with_want s c)))
+      judge (Ask w s) (NoSession when not (is_session s) ∷ NotAtRest when not (eqb c.place 0) ∷ []) (reached (placed 1 (with_want s c)))
       (ap not (well_formed_lem f)) (omega arith)
       (λ g. (ap not (within_holds 1 65535 s g.1 g.2), (ap not (eq-eqb c.place 0 g.0), tt)))
       (λ h.
@@ -102,7 +109,7 @@ module _ (n : ℕ) (k : Terms) (w : ℕ) (at : ℕ → Claimant) (c : Claimant) 
       let v = value_in (reads c) d in
       let fine : (well_formed n k c and holds (reads c) k v) ≡ true =
       rw (well_formed_lem f) (value_holds k (reads c) d (h (row_read (reads c)))) in
-      judge (Step w) (8 when (eqb c.place 0 or eqb c.place 10) ∷ []) (stepped (place_at c.place) n k w v c)
+      judge (Step w) (NoStep when (eqb c.place 0 or eqb c.place 10) ∷ []) (stepped (place_at c.place) n k w v c)
       (ap not fine) (omega arith)
       (λ e. (rw (ne_eqb c.place 0 e.0, ne_eqb c.place 10 e.1) refl, tt))
       (λ g.
@@ -115,7 +122,7 @@ module _ (n : ℕ) (k : Terms) (w : ℕ) (at : ℕ → Claimant) (c : Claimant) 
   leave_turned : Turned n k at (Leave w) c (left n k w c)
   unfolding left caller
   leave_turned =
-      judge (Leave w) (7 when not (eqb c.place 10) ∷ []) (reached (placed 11 c)) (ap not (well_formed_lem f)) (omega arith)
+      judge (Leave w) (NotInside when not (eqb c.place 10) ∷ []) (reached (placed 11 c)) (ap not (well_formed_lem f)) (omega arith)
       (λ g. (ap not (eq-eqb c.place 10 g), tt))
       (λ h.
       let p = eqb-true c.place 10 (not-false (eqb c.place 10) h.0) in
@@ -140,7 +147,7 @@ called_here {n} {k} {t} s c a b =
     (none_shared o a (omega (arith, s.length_is)) (ap not fine)))
 
 pub called_elsewhere : {n : ℕ} {k : Terms} {t : Table} → Sound n k t → (c : Call) → within 1 n (caller c) ≡ false
-    → called k c t ≡ record { table = t; answer = Refused 4 }
+    → called k c t ≡ record { table = t; answer = Refused NoClaimant }
 unfolding called unless_refused table_refusal refusals first
 called_elsewhere {n} {k} {t} s c e =
     let o = s.opens in
@@ -168,7 +175,8 @@ pub data Next (n : ℕ) (k : Terms) (c : Call) (at at' : ℕ → Claimant) : Typ
   moves : Begins c (at (caller c)) → Moves n k (caller c) at at' → Next n k c at at'
 
 module _ {n : ℕ} {k : Terms} {t : Table} (s : Sound n k t) (c : Call) (a : 1 ≤ caller c) (b : caller c ≤ n) where
-  to_moves : (d : Claimant) → Move n k (caller c) (record_of t) (record_of t (caller c)) d → Moves n k (caller c) (record_of t) (record_of (set t (caller c - 1) d))
+  to_moves : (d : Claimant) → Move n k (caller c) (record_of t) (record_of t (caller c)) d
+      → Moves n k (caller c) (record_of t) (record_of (set t (caller c - 1) d))
   to_moves d m =
       record {
         low = a;
@@ -200,17 +208,17 @@ module _ (k : Terms) (c : Call) (t : Table) where
   by_turn : (P : Called → Type 0)
       → (Sound (length t) k t → 1 ≤ caller c → caller c ≤ length t
       → P (record { table = set t (caller c - 1) (turn k c t).after; answer = (turn k c t).answer }))
-      → ((r : ℕ) → r ≤ 9 → P (record { table = t; answer = Refused r })) → P (called k c t)
+      → ((r : Refusal) → refusal_number r ≤ 9 → P (record { table = t; answer = Refused r })) → P (called k c t)
   unfolding called unless_refused table_refusal refusals
   by_turn P f g =
       let all = all_well_formed (length t) k t in
       let rs = refusals (length t) k (caller c) (not all) [] in
       judged P (record { table = set t (caller c - 1) (turn k c t).after; answer = (turn k c t).answer })
-      (record { table = t; answer = Refused (first rs) }) rs (omega arith)
+      (λ r. record { table = t; answer = Refused r }) rs
       (λ h.
       let s = shared_none {broken = not all} h in
       f (record { opens = s.0; length_is = refl; well_formed = not-false all s.2 }) s.1.0 s.1.1)
-      (λ h. g (first rs) (first_small rs (omega arith)))
+      (λ h r e. g r (first_small 9 rs (omega arith) r e))
 
   pub next : Next (length t) k c (record_of t) (record_of (called k c t).table)
   next =
@@ -224,6 +232,3 @@ module _ (k : Terms) (c : Call) (t : Table) where
 
   pub answer_small : number_of (called k c t).answer ≤ 41
   answer_small = by_turn (λ d. number_of d.answer ≤ 41) (λ s a b. turn_small (turned s c a b)) (λ r l. omega arith)
-
-  pub answer_byte : byte_of (called k c t).answer ≡ number_of (called k c t).answer
-  answer_byte = omega (arith, answer_small)

@@ -1,18 +1,23 @@
 -- What a test tells: choices, conjunctions, refusals, and `conflict` and `before` as facts on numbers.
 use mathlib.Core.Path.{◌≡◌, refl, sym, ◌∙◌}
 use mathlib.Core.Bool.{Bool, true, false, not}
-use mathlib.Core.List.{List, [], ◌∷◌}
+use mathlib.Core.List.{List, [], ◌∷◌, ◌++◌}
 use mathlib.Core.Logic.{◌≢◌, ◌⊎◌, inl, inr}
 use Prim.Native.Nat.{ℕ, ◌≤◌, ◌<◌}
 use native.Mathlib.Omega.{arith}
 use lib.Dec.{eqb, leb, ltb}
 pub use borrow.Table.Steps.{cases as decide}
 use borrow.Author.Tests.{leb-true, eqb-true, eqb-false, ltb-true, not-true, le-leb, ne_eqb}
-use Rattle.rules.specs.Tests.{pick, ◌and◌, ◌or◌, within, Refusal, first}
+use Rattle.std.specs.Prelude.{Ok, Err}
+use Rattle.std.proofs.lemmas.Bool.{true≢false}
+use Rattle.std.proofs.lemmas.Result.{IfOk-at_ok, IfErr-at_err}
+use Rattle.rules.specs.Tests.{◌and◌, ◌or◌, within, Listed, Verdict, first, by_verdict}
+use Rattle.rules.specs.Answers.{refusal_number}
 use Rattle.rules.specs.Rules.{conflict, before}
+use Rattle.rules.specs.declared.Refusal.{Refusal}
 
 pub true_not_false : {A : Type 0} → true ≡ false → A
-true_not_false e = let z : ◌≡◌ {A = ℕ} 0 1 = cc in absurd (omega arith)
+true_not_false e = absurd (true≢false e)
 
 pub both : (a b : Bool) → (a and b) ≡ true → (a ≡ true) × (b ≡ true)
 both true b e = (refl, e)
@@ -33,41 +38,53 @@ within_true low high x e =
 pub within_holds : (low high x : ℕ) → low ≤ x → x ≤ high → within low high x ≡ true
 within_holds low high x h g = rw (le-leb low x h, le-leb x high g)
 
+-- No verdict both refuses and lets go on.
+err_not_ok : {A : Type 0} {r : Refusal} {u : Unit {0}} → ◌≡◌ {A = Verdict} (Err r) (Ok u) → A
+err_not_ok {A} e = IfOk-at_ok (λ u. A) e tt
+
 -- None of the refusals is given.
-abbrev pub NoneGiven : List Refusal → Type 0
+abbrev pub NoneGiven : List Listed → Type 0
 NoneGiven [] = Unit {0}
 NoneGiven (r ∷ rs) = (r.given ≡ false) × NoneGiven rs
 
--- The refusals have numbers of 01's that a call may meet.
-abbrev pub Numbered : List Refusal → Type 0
-Numbered [] = Unit {0}
-Numbered (r ∷ rs) = (1 ≤ r.number) × (r.number ≤ 9) × Numbered rs
-
-pub none_given : (rs : List Refusal) → Numbered rs → eqb (first rs) 0 ≡ true → NoneGiven rs
+pub none_given : (rs : List Listed) → first rs ≡ Ok tt → NoneGiven rs
 unfolding first
-none_given [] p e = tt
-none_given (r ∷ rs) p e =
-    decide r.given
-    (λ g. absurd (omega (arith, eqb-true r.number 0 (rw g at e), p.0)))
-    (λ g. (g, none_given rs p.2 (rw g at e)))
+none_given [] e = tt
+none_given (r ∷ rs) e = decide r.given (λ g. err_not_ok (rw g at e)) (λ g. (g, none_given rs (rw g at e)))
 
-pub none_refuses : (rs : List Refusal) → NoneGiven rs → first rs ≡ 0
+pub none_refuses : (rs : List Listed) → NoneGiven rs → first rs ≡ Ok tt
 unfolding first
 none_refuses [] h = refl
 none_refuses (r ∷ rs) h = rw h.0 (none_refuses rs h.1)
 
--- A judgement by refusals: the one if none is given, and else the other.
-pub judged : {A : Type 0} (P : A → Type 0) (a b : A) (rs : List Refusal) → Numbered rs → (NoneGiven rs → P a) → (¬ (NoneGiven rs) → P b)
-    → P (pick (eqb (first rs) 0) a b)
-judged P a b rs p f g =
-    decide (eqb (first rs) 0)
-    (λ e. rw e (f (none_given rs p e)))
-    (λ e. rw e (g (λ h. eqb-false (first rs) 0 e (none_refuses rs h))))
-
-pub first_small : (rs : List Refusal) → Numbered rs → first rs ≤ 9
+-- What the front of a list refuses is refused, and where it refuses nothing the rest decides.
+pub first_append : (xs ys : List Listed) → first (xs ++ ys) ≡ by_verdict (first xs) (first ys) Err
 unfolding first
-first_small [] p = omega arith
-first_small (r ∷ rs) p = decide r.given (λ g. rw g p.1) (λ g. rw g (first_small rs p.2))
+first_append [] ys = refl
+first_append (r ∷ rs) ys = decide r.given (λ g. rw g) (λ g. rw g (first_append rs ys))
+
+-- No refusal of the list has a number of 01's over m.
+abbrev pub Numbered : (m : ℕ) → List Listed → Type 0
+Numbered m [] = Unit {0}
+Numbered m (r ∷ rs) = (refusal_number r.refusal ≤ m) × Numbered m rs
+
+pub first_small : (m : ℕ) (rs : List Listed) → Numbered m rs → (r : Refusal) → first rs ≡ Err r → refusal_number r ≤ m
+unfolding first
+first_small m [] p r e = err_not_ok (sym e)
+first_small m (x ∷ rs) p r e =
+    decide x.given
+    (λ g. IfErr-at_err (λ y. refusal_number y ≤ m) (rw g at e) p.0)
+    (λ g. first_small m rs p.1 r (rw g at e))
+
+by_first : {A : Type 0} (P : A → Type 0) (a : A) (f : Refusal → A) (rs : List Listed) → (NoneGiven rs → P a)
+    → (¬ (NoneGiven rs) → (r : Refusal) → first rs ≡ Err r → P (f r)) → (v : Verdict) → first rs ≡ v → P (by_verdict v a f)
+by_first P a f rs p q (Ok u) e = p (none_given rs e)
+by_first P a f rs p q (Err r) e = q (λ h. err_not_ok (sym e ∙ none_refuses rs h)) r e
+
+-- A judgement by refusals: the one if none is given, and else what the first that is given says.
+pub judged : {A : Type 0} (P : A → Type 0) (a : A) (f : Refusal → A) (rs : List Listed) → (NoneGiven rs → P a)
+    → (¬ (NoneGiven rs) → (r : Refusal) → first rs ≡ Err r → P (f r)) → P (by_verdict (first rs) a f)
+judged P a f rs p q = by_first P a f rs p q (first rs) refl
 
 pub record Conflict (s t : ℕ) : Type 0 where
   pub some : 1 ≤ s

@@ -3,26 +3,27 @@ use mathlib.Core.Path.{◌≡◌, ap}
 use mathlib.Core.Bool.{not}
 use Prim.Native.Nat.{ℕ, zero, suc, ◌≤◌}
 use native.Mathlib.Omega.{arith}
-use lib.Dec.{eqb, leb}
-use borrow.Author.Tests.{eq-eqb, ne_eqb, eqb-false, leb-true, leb-false, not-false}
+use lib.Dec.{leb}
+use Rattle.std.specs.Prelude.{Ok}
+use borrow.Author.Tests.{ne_eqb, eqb-false, leb-true, leb-false, not-false}
 use Rattle.rules.specs.Tests.{within, first}
 use Rattle.rules.specs.Rules.{open_refusals}
 use Rattle.rules.specs.Tables.{Table, record_of, Opens, Sound}
 use Rattle.rules.specs.Laws.{OpensExactly, OpeningRefuses, OpenedSound, CallKeepsSound, SoundInRange, CallAnswerSmall}
 use Rattle.rules.specs.declared.Terms.{Terms}
-use Rattle.rules.proofs.Choices.{decide, within_true, within_holds, none_given, none_refuses}
+use Rattle.rules.proofs.Choices.{decide, within_true, within_holds, none_given, none_refuses, first_small}
 use Rattle.rules.proofs.Rows.{beyond, rows_formed, any_bounds, opened_sound}
 use Rattle.rules.proofs.Calls.{answer_small}
 use Rattle.rules.proofs.Keeping.{sound_called}
 
-opens : (n : ℕ) (k : Terms) → first (open_refusals n k) ≡ 0 → Opens n k
+opens : (n : ℕ) (k : Terms) → first (open_refusals n k) ≡ Ok tt → Opens n k
 opens n k e =
-    let g = none_given (open_refusals n k) (omega arith) (eq-eqb _ 0 e) in
+    let g = none_given (open_refusals n k) e in
     let w = within_true 1 64 n (not-false (within 1 64 n) g.0) in
     let z = eqb-false k.ceiling 0 g.1.0 in
     record { some_row = w.0; rows = w.1; ceiling_set = omega arith }
 
-refuses_nothing : (n : ℕ) (k : Terms) → Opens n k → first (open_refusals n k) ≡ 0
+refuses_nothing : (n : ℕ) (k : Terms) → Opens n k → first (open_refusals n k) ≡ Ok tt
 refuses_nothing n k o =
     none_refuses (open_refusals n k)
     (ap not (within_holds 1 64 n o.some_row o.rows), (ne_eqb k.ceiling 0 (omega (arith, o.ceiling_set)), tt))
@@ -31,11 +32,7 @@ pub opens_exactly : OpensExactly
 opens_exactly n k = (opens n k, refuses_nothing n k)
 
 pub opening_refuses : OpeningRefuses
-unfolding first
-opening_refuses n k =
-    decide (not (within 1 64 n))
-    (λ e. rw e (omega arith))
-    (λ e. rw e (decide (eqb k.ceiling 0) (λ f. rw f (omega arith)) (λ f. rw f (omega arith))))
+opening_refuses n k r e = first_small 2 (open_refusals n k) (omega arith) r e
 
 pub opened_is_sound : OpenedSound
 opened_is_sound = opened_sound

@@ -6,5 +6,6 @@ pub mod Rows
 pub mod Calls
 pub mod Keeping
 pub mod Laws
+pub mod Verdicts
 pub mod Refusing
 pub mod Only

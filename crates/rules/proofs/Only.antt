@@ -22,19 +22,24 @@ use Rattle.rules.proofs.Register.row.Kinds as register_row_kinds
 use Rattle.rules.proofs.Register.row.Reads as register_row_reads
 use Rattle.rules.proofs.Register.value.Kinds as register_value_kinds
 use Rattle.rules.proofs.Register.value.Reads as register_value_reads
-use Rattle.rules.proofs.Answer.number.Kinds as answer_number_kinds
-use Rattle.rules.proofs.Answer.number.Reads as answer_number_reads
-use Rattle.rules.proofs.Answer.byte.Kinds as answer_byte_kinds
-use Rattle.rules.proofs.Answer.byte.Reads as answer_byte_reads
-use Rattle.rules.proofs.Terms.refusal.Kinds as terms_refusal_kinds
-use Rattle.rules.proofs.Terms.refusal.Reads as terms_refusal_reads
+use Rattle.rules.proofs.Board.opens.Kinds as board_opens_kinds
+use Rattle.rules.proofs.Board.opens.Reads as board_opens_reads
 use Rattle.rules.proofs.order.conflict.Kinds as conflict_kinds
 use Rattle.rules.proofs.order.conflict.Reads as conflict_reads
+use Rattle.rules.proofs.answers.PlaceFromU8.from.Kinds as place_from_u8_kinds
+use Rattle.rules.proofs.answers.PlaceFromU8.from.Reads as place_from_u8_reads
+use Rattle.rules.proofs.answers.U8FromRefusal.from.Kinds as u8_from_refusal_kinds
+use Rattle.rules.proofs.answers.U8FromRefusal.from.Reads as u8_from_refusal_reads
+use Rattle.rules.proofs.answers.U16FromAnswer.from.Kinds as u16_from_answer_kinds
+use Rattle.rules.proofs.answers.U16FromAnswer.from.Reads as u16_from_answer_reads
+use Rattle.rules.proofs.answers.U8FromAnswer.from.Kinds as u8_from_answer_kinds
+use Rattle.rules.proofs.answers.U8FromAnswer.from.Reads as u8_from_answer_reads
 
 -- What two results that meet a contract have in common: the lifetimes and the arguments, and not what comes back of what was lent.
 abbrev pub Only : (n : ℕ) (ps : List (ParamKind n)) (r : ResultKind n) → Out n ps r → Type 0
 Only n ps r Post =
-    (κs : Lfts n) (a : Dens κs ps) (x y : (res_t r κs).Denot) (s t : AtExit (ended_of n ps r) κs) → Post κs a x s → Post κs a y t → x ≡ y
+    (κs : Lfts n) (a : Dens κs ps) (x y : (res_t r κs).Denot) (s t : AtExit (ended_of n ps r) κs)
+    → Post κs a x s → Post κs a y t → x ≡ y
 
 -- The law: two things that equal a third are equal.
 pub same : {A : Type 0} {x y z : A} → x ≡ z → y ≡ z → x ≡ y
@@ -64,14 +69,20 @@ only_register_row κs a x y s t p q = same p q
 pub only_register_value : Only 0 register_value_kinds.ps register_value_kinds.r register_value_reads.Post
 only_register_value κs a x y s t p q = same p q
 
-pub only_answer_number : Only 0 answer_number_kinds.ps answer_number_kinds.r answer_number_reads.Post
-only_answer_number κs a x y s t p q = same p q
-
-pub only_answer_byte : Only 0 answer_byte_kinds.ps answer_byte_kinds.r answer_byte_reads.Post
-only_answer_byte κs a x y s t p q = same p q
-
-pub only_terms_refusal : Only 0 terms_refusal_kinds.ps terms_refusal_kinds.r terms_refusal_reads.Post
-only_terms_refusal κs a x y s t p q = same p q
+pub only_board_opens : Only 0 board_opens_kinds.ps board_opens_kinds.r board_opens_reads.Post
+only_board_opens κs a x y s t p q = same p q
 
 pub only_conflict : Only 0 conflict_kinds.ps conflict_kinds.r conflict_reads.Post
 only_conflict κs a x y s t p q = same p q
+
+pub only_place_from_u8 : Only 0 place_from_u8_kinds.ps place_from_u8_kinds.r place_from_u8_reads.Post
+only_place_from_u8 κs a x y s t p q = same p q
+
+pub only_u8_from_refusal : Only 0 u8_from_refusal_kinds.ps u8_from_refusal_kinds.r u8_from_refusal_reads.Post
+only_u8_from_refusal κs a x y s t p q = same p q
+
+pub only_u16_from_answer : Only 0 u16_from_answer_kinds.ps u16_from_answer_kinds.r u16_from_answer_reads.Post
+only_u16_from_answer κs a x y s t p q = same p q
+
+pub only_u8_from_answer : Only 0 u8_from_answer_kinds.ps u8_from_answer_kinds.r u8_from_answer_reads.Post
+only_u8_from_answer κs a x y s t p q = same p q

@@ -44,7 +44,11 @@ pub record Formed (n : ℕ) (k : Terms) (c : Claimant) : Type 0 where
 allowed : (a : Kind) (low high x : ℕ) → allows a low high x ≡ true → Allowed a low high x
 allowed Zero low high x e = eqb-true x 0 e
 allowed Set low high x e = within_true low high x e
-allowed ZeroOrSet low high x e = ⊎_elim (λ h. let z = eqb-true x 0 h in omega arith) (λ h. let g = within_true low high x h in (λ l. g.0, g.1)) (either (eqb x 0) (within low high x) e)
+allowed ZeroOrSet low high x e =
+    ⊎_elim
+    (λ h. let z = eqb-true x 0 h in omega arith)
+    (λ h. let g = within_true low high x h in (λ l. g.0, g.1))
+    (either (eqb x 0) (within low high x) e)
 
 allows_it : (a : Kind) (low high x : ℕ) → Allowed a low high x → allows a low high x ≡ true
 allows_it Zero low high x h = eq-eqb x 0 h

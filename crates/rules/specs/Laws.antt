@@ -1,19 +1,20 @@
 -- What the layers above rely on of tables and calls, beside the definitions. Proved in `proofs/Laws`.
-use Rattle.std.specs.Prelude.{ℕ, ◌≤◌, ◌↔◌, ◌≡◌}
+use Rattle.std.specs.Prelude.{ℕ, ◌≤◌, ◌↔◌, ◌≡◌, Ok, Err}
 use Rattle.rules.specs.Tests.{first}
-use Rattle.rules.specs.Answers.{number_of}
+use Rattle.rules.specs.Answers.{refusal_number, number_of}
 use Rattle.rules.specs.Rules.{open_refusals}
 use Rattle.rules.specs.Tables.{Table, opened, record_of, called, Opens, Sound}
 use Rattle.rules.specs.declared.Claimant.{Claimant}
 use Rattle.rules.specs.declared.Terms.{Terms}
 use Rattle.rules.specs.declared.Call.{Call}
+use Rattle.rules.specs.declared.Refusal.{Refusal}
 
 -- Opening refuses nothing exactly if it has 1 to 64 rows and a ceiling; what it refuses with is 1 or 2.
 abbrev pub OpensExactly : Type 0
-OpensExactly = (n : ℕ) (k : Terms) → first (open_refusals n k) ≡ 0 ↔ Opens n k
+OpensExactly = (n : ℕ) (k : Terms) → first (open_refusals n k) ≡ Ok tt ↔ Opens n k
 
 abbrev pub OpeningRefuses : Type 0
-OpeningRefuses = (n : ℕ) (k : Terms) → first (open_refusals n k) ≤ 2
+OpeningRefuses = (n : ℕ) (k : Terms) (r : Refusal) → first (open_refusals n k) ≡ Err r → refusal_number r ≤ 2
 
 -- An opened table is sound, and a call keeps a table sound.
 abbrev pub OpenedSound : Type 0

@@ -1,23 +1,23 @@
 -- The thirteen places, and what a record may hold at each.
 use Rattle.std.specs.Prelude.{ℕ, Bool, List, [], ◌∷◌, eqb, leb, get_or}
 use Rattle.rules.specs.Tests.{◌and◌, ◌or◌, within}
+use Rattle.rules.specs.declared.Place.{Place}
+use Rattle.rules.specs.declared.Place.TheVariants.{Rest, Sign, Raise, Scan, Take, Lower, SeeChoosing, SeeSession, SeeToken, SeeAgain}
+use Rattle.rules.specs.declared.Place.TheVariants.{Inside, DropToken, DropSession, Nowhere}
 use Rattle.rules.specs.declared.Claimant.{Claimant}
 use Rattle.rules.specs.declared.Terms.{Terms}
 use Rattle.rules.specs.declared.Row.{Row}
 use Rattle.rules.specs.declared.Kind.{Kind}
 use Rattle.rules.specs.declared.Kind.TheVariants.{Zero, Set, ZeroOrSet}
 
--- The places by name, in the order of their numbers; a number over 12 is nowhere.
-pub data Place : Type 0 where
-  rest sign raise scan take lower see_choosing see_session see_token see_again inside drop_token drop_session nowhere : Place
-
+-- The places in the order of their numbers; a number over 12 is nowhere.
 unfoldable pub places : List Place
 places =
-    rest ∷ sign ∷ raise ∷ scan ∷ take ∷ lower ∷ see_choosing ∷ see_session ∷ see_token ∷ see_again ∷ inside ∷ drop_token ∷ drop_session ∷ []
+    Rest ∷ Sign ∷ Raise ∷ Scan ∷ Take ∷ Lower ∷ SeeChoosing ∷ SeeSession ∷ SeeToken ∷ SeeAgain ∷ Inside ∷ DropToken ∷ DropSession ∷ []
 
 unfoldable pub place_at : ℕ → Place
 unfolding places
-place_at p = get_or places p nowhere
+place_at p = get_or places p Nowhere
 
 -- A row of the table: Session, want, Choosing, Token, other, seen.
 abbrev pub row : Kind → Kind → Kind → Kind → Kind → Kind → Row

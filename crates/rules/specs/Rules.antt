@@ -1,15 +1,19 @@
 -- The rules of the group Bakery for one claimant, one register read or written a step.
-use Rattle.std.specs.Prelude.{ℕ, ◌+◌, max, Bool, true, not, List, [], ◌∷◌, ◌++◌, eqb, ltb, leb}
-use Rattle.rules.specs.Tests.{pick, ◌and◌, ◌or◌, within, Refusal, ◌when◌, first}
+use Rattle.std.specs.Prelude.{ℕ, ◌+◌, max, Bool, true, not, List, [], ◌∷◌, ◌++◌, eqb, ltb, leb, Option, None, Some}
+use Rattle.rules.specs.Tests.{pick, ◌and◌, ◌or◌, within, Listed, ◌when◌, Verdict, first, by_verdict}
 use Rattle.rules.specs.Records.{placed, with_choosing, with_session, with_token, with_want, with_other, with_seen}
-use Rattle.rules.specs.Places.{Place, place_at, is_session, well_formed}
-use Rattle.rules.specs.Places.Place.{rest, sign, raise, scan, take, lower, see_choosing, see_session, see_token, see_again, inside, drop_token, drop_session, nowhere}
+use Rattle.rules.specs.Places.{place_at, is_session, well_formed}
+use Rattle.rules.specs.declared.Place.{Place}
+use Rattle.rules.specs.declared.Place.TheVariants.{Rest, Sign, Raise, Scan, Take, Lower, SeeChoosing, SeeSession, SeeToken, SeeAgain}
+use Rattle.rules.specs.declared.Place.TheVariants.{Inside, DropToken, DropSession, Nowhere}
 use Rattle.rules.specs.declared.Claimant.{Claimant}
 use Rattle.rules.specs.declared.Terms.{Terms}
 use Rattle.rules.specs.declared.Turn.{Turn}
+use Rattle.rules.specs.declared.Refusal.{Refusal}
+use Rattle.rules.specs.declared.Refusal.TheVariants.{RowCount, NoCeiling, Broken, NoClaimant, NoSession, NotAtRest, NotInside, NoStep}
 use Rattle.rules.specs.declared.Answer.TheVariants.{Reached, TurnedAway, Refused}
 use Rattle.rules.specs.declared.Register.{Register}
-use Rattle.rules.specs.declared.Register.TheVariants.{Nothing, Choosing, Session, Token}
+use Rattle.rules.specs.declared.Register.TheVariants.{Choosing, Session, Token}
 
 -- Two sessions conflict if both are nonzero and differ.
 unfoldable pub conflict : ℕ → ℕ → Bool
@@ -19,39 +23,39 @@ conflict s t = leb 1 s and leb 1 t and not (eqb s t)
 unfoldable pub before : (token number token' number' : ℕ) → Bool
 before t i u j = ltb t u or (eqb t u and ltb i j)
 
--- The register that a place reads, of the row that the claimant looks at.
-unfoldable pub read_at : Place → (row : ℕ) → Register
-read_at rest o = Nothing
-read_at sign o = Nothing
-read_at raise o = Nothing
-read_at scan o = Token o
-read_at take o = Nothing
-read_at lower o = Nothing
-read_at see_choosing o = Choosing o
-read_at see_session o = Session o
-read_at see_token o = Token o
-read_at see_again o = Session o
-read_at inside o = Nothing
-read_at drop_token o = Nothing
-read_at drop_session o = Nothing
-read_at nowhere o = Nothing
+-- The register that a place reads, if it reads one, of the row that the claimant looks at.
+unfoldable pub read_at : Place → (row : ℕ) → Option Register
+read_at Rest o = None
+read_at Sign o = None
+read_at Raise o = None
+read_at Scan o = Some (Token o)
+read_at Take o = None
+read_at Lower o = None
+read_at SeeChoosing o = Some (Choosing o)
+read_at SeeSession o = Some (Session o)
+read_at SeeToken o = Some (Token o)
+read_at SeeAgain o = Some (Session o)
+read_at Inside o = None
+read_at DropToken o = None
+read_at DropSession o = None
+read_at Nowhere o = None
 
-unfoldable pub reads : Claimant → Register
+unfoldable pub reads : Claimant → Option Register
 reads c = read_at (place_at c.place) c.other
 
 -- The value of that register, in the record of the claimant looked at.
-abbrev pub value_in : Register → Claimant → ℕ
-value_in Nothing d = 0
-value_in (Choosing o) d = d.choosing
-value_in (Session o) d = d.session
-value_in (Token o) d = d.token
+abbrev pub value_in : Option Register → Claimant → ℕ
+value_in None d = 0
+value_in (Some (Choosing o)) d = d.choosing
+value_in (Some (Session o)) d = d.session
+value_in (Some (Token o)) d = d.token
 
 -- A value that such a register can hold.
-abbrev pub holds : Register → Terms → (v : ℕ) → Bool
-holds Nothing k v = true
-holds (Choosing o) k v = leb v 1
-holds (Session o) k v = leb v 65535
-holds (Token o) k v = leb v k.ceiling
+abbrev pub holds : Option Register → Terms → (v : ℕ) → Bool
+holds None k v = true
+holds (Some (Choosing o)) k v = leb v 1
+holds (Some (Session o)) k v = leb v 65535
+holds (Some (Token o)) k v = leb v k.ceiling
 
 -- An accepted call answers the place reached.
 abbrev pub reached : Claimant → Turn
@@ -114,53 +118,54 @@ dropped_session c = reached (placed 0 (with_session 0 (with_want 0 c)))
 
 -- One step, where nothing refuses it; `v` is the value read. Rest, inside and nowhere take none.
 unfoldable pub stepped : Place → (n : ℕ) → Terms → (number v : ℕ) → Claimant → Turn
-stepped rest n k i v c = reached c
-stepped sign n k i v c = signed c
-stepped raise n k i v c = raised c
-stepped scan n k i v c = scanned n v c
-stepped take n k i v c = taken k c
-stepped lower n k i v c = lowered c
-stepped see_choosing n k i v c = saw_choosing v c
-stepped see_session n k i v c = saw_session v c
-stepped see_token n k i v c = saw_token n i v c
-stepped see_again n k i v c = saw_again n v c
-stepped inside n k i v c = reached c
-stepped drop_token n k i v c = dropped_token c
-stepped drop_session n k i v c = dropped_session c
-stepped nowhere n k i v c = reached c
+stepped Rest n k i v c = reached c
+stepped Sign n k i v c = signed c
+stepped Raise n k i v c = raised c
+stepped Scan n k i v c = scanned n v c
+stepped Take n k i v c = taken k c
+stepped Lower n k i v c = lowered c
+stepped SeeChoosing n k i v c = saw_choosing v c
+stepped SeeSession n k i v c = saw_session v c
+stepped SeeToken n k i v c = saw_token n i v c
+stepped SeeAgain n k i v c = saw_again n v c
+stepped Inside n k i v c = reached c
+stepped DropToken n k i v c = dropped_token c
+stepped DropSession n k i v c = dropped_session c
+stepped Nowhere n k i v c = reached c
 
 -- What opening refuses, and every call before all else.
-abbrev pub open_refusals : (n : ℕ) → Terms → List Refusal
-open_refusals n k = 1 when not (within 1 64 n) ∷ 2 when eqb k.ceiling 0 ∷ []
+abbrev pub open_refusals : (n : ℕ) → Terms → List Listed
+open_refusals n k = RowCount when not (within 1 64 n) ∷ NoCeiling when eqb k.ceiling 0 ∷ []
 
 -- What every call refuses, in 01's order, in front of what only this call refuses.
-unfoldable pub refusals : (n : ℕ) → Terms → (number : ℕ) → (broken : Bool) → List Refusal → List Refusal
-refusals n k i broken own = open_refusals n k ++ (3 when broken ∷ 4 when not (within 1 n i) ∷ own)
+unfoldable pub refusals : (n : ℕ) → Terms → (number : ℕ) → (broken : Bool) → List Listed → List Listed
+refusals n k i broken own = open_refusals n k ++ (Broken when broken ∷ NoClaimant when not (within 1 n i) ∷ own)
 
 -- A refused record comes back as it was.
-abbrev pub refused : Claimant → (refusal : ℕ) → Turn
+abbrev pub refused : Claimant → Refusal → Turn
 refused c r = record { after = c; answer = Refused r }
 
-unfoldable pub unless : (refusal : ℕ) → Claimant → Turn → Turn
-unless r c t = pick (eqb r 0) t (refused c r)
+-- The turn, where nothing is refused.
+unfoldable pub unless : Verdict → Claimant → Turn → Turn
+unless v c t = by_verdict v t (refused c)
 
 -- The three calls: what each refuses, and what it does where nothing refuses it.
-abbrev pub ask_refusals : (n : ℕ) → Terms → (number session : ℕ) → Claimant → List Refusal
-ask_refusals n k i s c = refusals n k i (not (well_formed n k c)) (5 when not (is_session s) ∷ 6 when not (eqb c.place 0) ∷ [])
+abbrev pub ask_refusals : (n : ℕ) → Terms → (number session : ℕ) → Claimant → List Listed
+ask_refusals n k i s c = refusals n k i (not (well_formed n k c)) (NoSession when not (is_session s) ∷ NotAtRest when not (eqb c.place 0) ∷ [])
 
 unfoldable pub asked : (n : ℕ) → Terms → (number session : ℕ) → Claimant → Turn
 asked n k i s c = unless (first (ask_refusals n k i s c)) c (reached (placed 1 (with_want s c)))
 
 -- A record is broken for a step also where the value read is one that no such register can hold.
-abbrev pub step_refusals : (n : ℕ) → Terms → (number v : ℕ) → Claimant → List Refusal
+abbrev pub step_refusals : (n : ℕ) → Terms → (number v : ℕ) → Claimant → List Listed
 step_refusals n k i v c =
-    refusals n k i (not (well_formed n k c and holds (reads c) k v)) (8 when (eqb c.place 0 or eqb c.place 10) ∷ [])
+    refusals n k i (not (well_formed n k c and holds (reads c) k v)) (NoStep when (eqb c.place 0 or eqb c.place 10) ∷ [])
 
 unfoldable pub step_taken : (n : ℕ) → Terms → (number v : ℕ) → Claimant → Turn
 step_taken n k i v c = unless (first (step_refusals n k i v c)) c (stepped (place_at c.place) n k i v c)
 
-abbrev pub leave_refusals : (n : ℕ) → Terms → (number : ℕ) → Claimant → List Refusal
-leave_refusals n k i c = refusals n k i (not (well_formed n k c)) (7 when not (eqb c.place 10) ∷ [])
+abbrev pub leave_refusals : (n : ℕ) → Terms → (number : ℕ) → Claimant → List Listed
+leave_refusals n k i c = refusals n k i (not (well_formed n k c)) (NotInside when not (eqb c.place 10) ∷ [])
 
 unfoldable pub left : (n : ℕ) → Terms → (number : ℕ) → Claimant → Turn
 left n k i c = unless (first (leave_refusals n k i c)) c (reached (placed 11 c))

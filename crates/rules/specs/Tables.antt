@@ -1,6 +1,6 @@
 -- What a call does to a table: a row of records, record 1 first.
-use Rattle.std.specs.Prelude.{ℕ, zero, suc, ◌-◌, ◌≤◌, Bool, true, not, List, [], ◌∷◌, ◌≡◌, eqb, get_or, length, set, replicate}
-use Rattle.rules.specs.Tests.{pick, ◌and◌, first}
+use Rattle.std.specs.Prelude.{ℕ, zero, suc, ◌-◌, ◌≤◌, Bool, true, not, List, [], ◌∷◌, ◌≡◌, get_or, length, set, replicate, Option, None, Some}
+use Rattle.rules.specs.Tests.{◌and◌, Verdict, first, by_verdict}
 use Rattle.rules.specs.Records.{blank}
 use Rattle.rules.specs.Places.{well_formed}
 use Rattle.rules.specs.Rules.{reads, value_in, refusals, asked, step_taken, left}
@@ -12,7 +12,7 @@ use Rattle.rules.specs.declared.Call.TheVariants.{Ask, Step, Leave}
 use Rattle.rules.specs.declared.Answer.{Answer}
 use Rattle.rules.specs.declared.Answer.TheVariants.{Refused}
 use Rattle.rules.specs.declared.Register.{Register}
-use Rattle.rules.specs.declared.Register.TheVariants.{Nothing, Choosing, Session, Token}
+use Rattle.rules.specs.declared.Register.TheVariants.{Choosing, Session, Token}
 
 abbrev pub Table : Type 0
 Table = List Claimant
@@ -26,12 +26,12 @@ unfoldable pub record_of : Table → ℕ → Claimant
 record_of t zero = blank
 record_of t (suc w) = get_or t w blank
 
--- The row whose register is read.
-abbrev pub row_read : Register → ℕ
-row_read Nothing = 0
-row_read (Choosing o) = o
-row_read (Session o) = o
-row_read (Token o) = o
+-- The row whose register is read; 0 where none is.
+abbrev pub row_read : Option Register → ℕ
+row_read None = 0
+row_read (Some (Choosing o)) = o
+row_read (Some (Session o)) = o
+row_read (Some (Token o)) = o
 
 -- The value that a claimant with this record reads in the table.
 unfoldable pub value_read : Table → Claimant → ℕ
@@ -58,11 +58,11 @@ pub record Called : Type 0 where
   pub answer : Answer
 
 -- A refused table comes back as it was.
-unfoldable pub unless_refused : (refusal : ℕ) → Table → Called → Called
-unless_refused r t d = pick (eqb r 0) d (record { table = t; answer = Refused r })
+unfoldable pub unless_refused : Verdict → Table → Called → Called
+unless_refused v t d = by_verdict v d (λ r. record { table = t; answer = Refused r })
 
 -- What every call on a table refuses: 1 to 4.
-unfoldable pub table_refusal : Terms → (number : ℕ) → Table → ℕ
+unfoldable pub table_refusal : Terms → (number : ℕ) → Table → Verdict
 table_refusal k w t = first (refusals (length t) k w (not (all_well_formed (length t) k t)) [])
 
 -- One call: the caller's one record changed by its rule, and no other.

@@ -1,24 +1,59 @@
-// 01's number of an answer.
+// 01's numbers: of a place, a refusal and an answer.
 ghost use Rattle.std.specs.Prelude.{◌≡◌};
-ghost use Rattle.rules.specs.Answers.{number_of, byte_of};
+ghost use Rattle.rules.specs.Places.{place_at};
+ghost use Rattle.rules.specs.Answers.{refusal_number, number_of, byte_of};
 
-use crate::Answer;
+use crate::{Answer, Place, Refusal};
 
-impl Answer {
-    pub fn number(self) -> u16
-        ensures { result ≡ number_of self }
-    {
-        match self {
-            Answer::Reached(place) => place as u16,
-            Answer::TurnedAway => 31,
-            Answer::Refused(refusal) => 32 + refusal as u16,
+impl From<u8> for Place {
+    ghost from_gives = { λ n p. p ≡ place_at n };
+
+    #[tactic(auto, unfolding(crate::specs::Places::place_at))]
+    fn from(number: u8) -> Place {
+        match number {
+            0 => Place::Rest,
+            1 => Place::Sign,
+            2 => Place::Raise,
+            3 => Place::Scan,
+            4 => Place::Take,
+            5 => Place::Lower,
+            6 => Place::SeeChoosing,
+            7 => Place::SeeSession,
+            8 => Place::SeeToken,
+            9 => Place::SeeAgain,
+            10 => Place::Inside,
+            11 => Place::DropToken,
+            12 => Place::DropSession,
+            _ => Place::Nowhere,
         }
     }
+}
 
-    // The answer byte of a schedule's entry.
-    pub fn byte(self) -> u8
-        ensures { result ≡ byte_of self }
-    {
-        (self.number() % 256) as u8
+impl From<Refusal> for u8 {
+    ghost from_gives = { λ r n. n ≡ refusal_number r };
+
+    fn from(refusal: Refusal) -> u8 {
+        refusal as u8
+    }
+}
+
+impl From<Answer> for u16 {
+    ghost from_gives = { λ a n. n ≡ number_of a };
+
+    fn from(answer: Answer) -> u16 {
+        match answer {
+            Answer::Reached(place) => place as u16,
+            Answer::TurnedAway => 31,
+            Answer::Refused(refusal) => 32 + u8::from(refusal) as u16,
+        }
+    }
+}
+
+// The answer byte of a schedule's entry.
+impl From<Answer> for u8 {
+    ghost from_gives = { λ a n. n ≡ byte_of a };
+
+    fn from(answer: Answer) -> u8 {
+        (u16::from(answer) % 256) as u8
     }
 }

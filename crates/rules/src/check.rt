@@ -3,8 +3,7 @@ ghost use Rattle.std.specs.Prelude.{◌≡◌};
 ghost use Rattle.rules.specs.Records.{blank};
 ghost use Rattle.rules.specs.Places.{allows, fits, well_formed};
 
-use crate::bools::{both, either, within};
-use crate::{Claimant, Kind, Row, Terms};
+use crate::{Board, Claimant, Kind, Place, Row};
 
 // The rows, by what a record with such a row is at.
 const REST: Row = Row {
@@ -80,37 +79,34 @@ const INSIDE: Row = Row {
 };
 
 impl Row {
-    // Whether each field of the record is of its kind. Set, Session is the want, and the others are from 1 on.
-    fn fits(self, n: usize, terms: Terms, c: Claimant) -> bool
-        ensures { result ≡ fits self n terms c }
+    // Whether each field of the record is of its kind. Set, Session is the want, and the others are from 1 on. Where the row is known,
+    // each kind's test is too, so that a place's check is straight code: hence `inline`.
+    #[inline(always)]
+    #[tactic(auto, unfolding(crate::specs::Places::fits))]
+    fn fits(self, board: Board, c: Claimant) -> bool
+        ensures { result ≡ fits self board.n board.terms c }
     {
         let want = c.want as u64;
-        let ceiling = terms.ceiling as u64;
-        let session = self.session;
-        let wanted = self.want;
-        let choosing = self.choosing;
-        let token = self.token;
-        let other = self.other;
-        let seen = self.seen;
-        let a = session.allows(want, want, c.session as u64);
-        let b = wanted.allows(1, 65535, want);
-        let d = choosing.allows(1, 1, c.choosing as u64);
-        let e = token.allows(1, ceiling, c.token as u64);
-        let f = other.allows(1, n as u64, c.other as u64);
-        let g = seen.allows(1, ceiling, c.seen as u64);
-        both(a, both(b, both(d, both(e, both(f, g)))))
+        let ceiling = board.terms.ceiling as u64;
+        self.session.allows(want, want, c.session as u64)
+            && self.want.allows(1, 65535, want)
+            && self.choosing.allows(1, 1, c.choosing as u64)
+            && self.token.allows(1, ceiling, c.token as u64)
+            && self.other.allows(1, board.n as u64, c.other as u64)
+            && self.seen.allows(1, ceiling, c.seen as u64)
     }
 }
 
 impl Kind {
     // Whether a field of this kind may hold x, where it is set from low to high.
+    #[inline(always)]
     fn allows(self, low: u64, high: u64, x: u64) -> bool
         ensures { result ≡ allows self low high x }
     {
         match self {
             Kind::Zero => x == 0,
-            Kind::Set => within(low, high, x),
-            Kind::ZeroOrSet => either(x == 0, within(low, high, x)),
+            Kind::Set => (low..=high).contains(&x),
+            Kind::ZeroOrSet => x == 0 || (low..=high).contains(&x),
         }
     }
 }
@@ -131,21 +127,23 @@ impl Claimant {
         }
     }
 
-    // Whether the record keeps its place's row, in a table of n rows. This is the table of thirteen rows.
-    pub fn well_formed(self, n: usize, terms: Terms) -> bool
-        ensures { result ≡ well_formed n terms self }
+    // Whether the record keeps its place's row, in such a table. This is the table of thirteen rows.
+    #[tactic(auto, unfolding(crate::specs::Places::rows), using(crate::proofs::Places::well_formed_at))]
+    pub fn well_formed(self, board: Board) -> bool
+        ensures { result ≡ well_formed board.n board.terms self }
     {
-        let place = self.place;
-        match place {
-            0 => REST.fits(n, terms, self),
-            1 => ASKED.fits(n, terms, self),
-            2 | 12 => SIGNED.fits(n, terms, self),
-            3 => SCANNING.fits(n, terms, self),
-            4 => TAKING.fits(n, terms, self),
-            5 => LOWERING.fits(n, terms, self),
-            6 | 7 | 8 | 9 => WAITING.fits(n, terms, self),
-            10 | 11 => INSIDE.fits(n, terms, self),
-            _ => false,
+        match Place::from(self.place) {
+            Place::Rest => REST.fits(board, self),
+            Place::Sign => ASKED.fits(board, self),
+            Place::Raise | Place::DropSession => SIGNED.fits(board, self),
+            Place::Scan => SCANNING.fits(board, self),
+            Place::Take => TAKING.fits(board, self),
+            Place::Lower => LOWERING.fits(board, self),
+            Place::SeeChoosing | Place::SeeSession | Place::SeeToken | Place::SeeAgain => {
+                WAITING.fits(board, self)
+            }
+            Place::Inside | Place::DropToken => INSIDE.fits(board, self),
+            Place::Nowhere => false,
         }
     }
 }

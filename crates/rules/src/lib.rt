@@ -3,7 +3,6 @@
 #![tactic(auto)]
 
 mod answers;
-mod bools;
 mod check;
 mod look;
 mod order;
@@ -12,7 +11,8 @@ mod turns;
 
 pub use order::conflict;
 
-// A claimant's record, in the order of a packed row. Session, Choosing and Token are shared; the rest is its own.
+// A claimant's record, in the order of a packed row. Session, Choosing and Token are shared; the rest is its own. Its place is a
+// number and no `Place`, since a table may hold any: one that is no place is broken.
 #[derive(Clone, Copy)]
 pub struct Claimant {
     pub place: u8,
@@ -24,10 +24,36 @@ pub struct Claimant {
     pub seen: u32,
 }
 
+// The places, in the order of 01's numbers, and what a number over 12 is.
+#[derive(Clone, Copy, Debug, PartialEq, Eq)]
+pub enum Place {
+    Rest,
+    Sign,
+    Raise,
+    Scan,
+    Take,
+    Lower,
+    SeeChoosing,
+    SeeSession,
+    SeeToken,
+    SeeAgain,
+    Inside,
+    DropToken,
+    DropSession,
+    Nowhere,
+}
+
 // What all claimants of a table agree on, given with each call.
 #[derive(Clone, Copy)]
 pub struct Terms {
     pub ceiling: u32,
+}
+
+// What a rule is told of the table beside that: how many rows it has.
+#[derive(Clone, Copy)]
+pub struct Board {
+    pub n: usize,
+    pub terms: Terms,
 }
 
 #[derive(Clone, Copy)]
@@ -37,12 +63,30 @@ pub enum Call {
     Leave { who: u32 },
 }
 
-// The place reached, a turned-away take, or the number of the refusal.
+// 01's list of refusals, under its numbers.
+#[derive(Clone, Copy, Debug, PartialEq, Eq)]
+pub enum Refusal {
+    RowCount = 1,
+    NoCeiling = 2,
+    Broken = 3,
+    NoClaimant = 4,
+    NoSession = 5,
+    NotAtRest = 6,
+    NotInside = 7,
+    NoStep = 8,
+    NoCall = 9,
+    NoRoom = 10,
+    TooLong = 11,
+    BadLine = 12,
+    TooManyLines = 13,
+}
+
+// The place reached, a turned-away take, or the refusal.
 #[derive(Clone, Copy)]
 pub enum Answer {
     Reached(u8),
     TurnedAway,
-    Refused(u8),
+    Refused(Refusal),
 }
 
 // A record after a call, and the answer. A refused record is as it was.
@@ -52,10 +96,9 @@ pub struct Turn {
     pub answer: Answer,
 }
 
-// The register that a place reads, and of which row.
+// A register, and of which row.
 #[derive(Clone, Copy)]
 pub enum Register {
-    Nothing,
     Choosing(u8),
     Session(u8),
     Token(u8),

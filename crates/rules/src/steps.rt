@@ -1,12 +1,12 @@
 // One step at each place: one register read, or one written.
-ghost use Rattle.std.specs.Prelude.{◌≡◌, ◌≤◌, max};
+ghost use Rattle.std.specs.Prelude.{◌≡◌, ◌≤◌};
 ghost use Rattle.rules.specs.Places.{place_at};
 ghost use Rattle.rules.specs.Rules.{reached, passed, signed, raised, scanned, taken, lowered, saw_choosing, saw_session, saw_token, saw_again, dropped_token, dropped_session, stepped};
 
-use crate::bools::{choose, either};
 use crate::order::{before, conflict};
-use crate::{Answer, Claimant, Terms, Turn};
+use crate::{Answer, Board, Claimant, Place, Turn};
 
+// What a step looks at its own record alone for.
 impl Claimant {
     // An accepted call answers the place reached.
     pub(crate) fn reached(self) -> Turn
@@ -18,27 +18,11 @@ impl Claimant {
         }
     }
 
-    // On to the next row, or inside after the last.
-    fn passed(mut self, n: usize) -> Claimant
-        requires { self.other ≤ 64 }
-        ensures { result ≡ passed n self }
-    {
-        let other = self.other;
-        if other as usize == n {
-            self.place = 10;
-            self.other = 0;
-            return self;
-        }
-        self.place = 6;
-        self.other = other + 1;
-        self
-    }
-
     fn sign(mut self) -> Turn
         ensures { result ≡ signed self }
     {
         self.session = self.want;
-        self.place = 2;
+        self.place = Place::Raise as u8;
         self.reached()
     }
 
@@ -48,42 +32,8 @@ impl Claimant {
         self.choosing = 1;
         self.other = 1;
         self.seen = 0;
-        self.place = 3;
+        self.place = Place::Scan as u8;
         self.reached()
-    }
-
-    fn scan(mut self, n: usize, value: u32) -> Turn
-        requires { self.other ≤ 64 }
-        ensures { result ≡ scanned n value self }
-    {
-        let other = self.other;
-        self.seen = larger(self.seen, value);
-        if other as usize == n {
-            self.place = 4;
-            self.other = 0;
-            return self.reached();
-        }
-        self.place = 3;
-        self.other = other + 1;
-        self.reached()
-    }
-
-    fn take(mut self, terms: Terms) -> Turn
-        ensures { result ≡ taken terms self }
-    {
-        let seen = self.seen;
-        self.seen = 0;
-        if seen < terms.ceiling {
-            self.token = seen + 1;
-            self.place = 5;
-            return self.reached();
-        }
-        self.choosing = 0;
-        self.place = 12;
-        Turn {
-            after: self,
-            answer: Answer::TurnedAway,
-        }
     }
 
     fn lower(mut self) -> Turn
@@ -91,54 +41,15 @@ impl Claimant {
     {
         self.choosing = 0;
         self.other = 1;
-        self.place = 6;
+        self.place = Place::SeeChoosing as u8;
         self.reached()
-    }
-
-    fn see_choosing(mut self, value: u32) -> Turn
-        ensures { result ≡ saw_choosing value self }
-    {
-        self.place = choose(value == 0, 8, 7);
-        self.reached()
-    }
-
-    fn see_session(mut self, value: u32) -> Turn
-        ensures { result ≡ saw_session value self }
-    {
-        self.place = choose(conflict(value, self.want as u32), 6, 8);
-        self.reached()
-    }
-
-    fn see_token(mut self, n: usize, number: u32, value: u32) -> Turn
-        requires { self.other ≤ 64 }
-        ensures { result ≡ saw_token n number value self }
-    {
-        if either(
-            value == 0,
-            before(self.token, number, value, self.other as u32),
-        ) {
-            return self.passed(n).reached();
-        }
-        self.place = 9;
-        self.reached()
-    }
-
-    fn see_again(mut self, n: usize, value: u32) -> Turn
-        requires { self.other ≤ 64 }
-        ensures { result ≡ saw_again n value self }
-    {
-        if conflict(value, self.want as u32) {
-            self.place = 8;
-            return self.reached();
-        }
-        self.passed(n).reached()
     }
 
     fn drop_token(mut self) -> Turn
         ensures { result ≡ dropped_token self }
     {
         self.token = 0;
-        self.place = 12;
+        self.place = Place::DropSession as u8;
         self.reached()
     }
 
@@ -147,35 +58,137 @@ impl Claimant {
     {
         self.session = 0;
         self.want = 0;
-        self.place = 0;
+        self.place = Place::Rest as u8;
         self.reached()
-    }
-
-    // The step of the place; rest and inside take none.
-    pub(crate) fn stepped(self, n: usize, terms: Terms, number: u32, value: u32) -> Turn
-        requires { self.other ≤ 64 }
-        ensures { result ≡ stepped (place_at self.place) n terms number value self }
-    {
-        let place = self.place;
-        match place {
-            1 => self.sign(),
-            2 => self.raise(),
-            3 => self.scan(n, value),
-            4 => self.take(terms),
-            5 => self.lower(),
-            6 => self.see_choosing(value),
-            7 => self.see_session(value),
-            8 => self.see_token(n, number, value),
-            9 => self.see_again(n, value),
-            11 => self.drop_token(),
-            12 => self.drop_session(),
-            _ => self.reached(),
-        }
     }
 }
 
-fn larger(a: u32, b: u32) -> u32
-    ensures { result ≡ max a b }
-{
-    if a < b { b } else { a }
+// A step to be made: the record, that of claimant `number` of a board, and the value of the register that its place reads. The row looked
+// at is one of 64 at most, so the next row's number is a byte too.
+#[derive(Clone, Copy)]
+pub(crate) struct Stepping {
+    pub own: Claimant,
+    pub board: Board,
+    pub number: u32,
+    pub value: u32,
+    ghost in_rows: { own.other ≤ 64 },
+}
+
+impl Stepping {
+    // The step of the place; rest and inside take none.
+    #[tactic(auto, unfolding(crate::specs::Rules::stepped))]
+    pub(crate) fn turn(self) -> Turn
+        ensures { result ≡ stepped (place_at self.own.place) self.board.n self.board.terms self.number self.value self.own }
+    {
+        match Place::from(self.own.place) {
+            Place::Sign => self.own.sign(),
+            Place::Raise => self.own.raise(),
+            Place::Scan => self.scan(),
+            Place::Take => self.take(),
+            Place::Lower => self.own.lower(),
+            Place::SeeChoosing => self.see_choosing(),
+            Place::SeeSession => self.see_session(),
+            Place::SeeToken => self.see_token(),
+            Place::SeeAgain => self.see_again(),
+            Place::DropToken => self.own.drop_token(),
+            Place::DropSession => self.own.drop_session(),
+            Place::Rest | Place::Inside | Place::Nowhere => self.own.reached(),
+        }
+    }
+
+    fn scan(self) -> Turn
+        ensures { result ≡ scanned self.board.n self.value self.own }
+    {
+        let mut own = self.own;
+        own.seen = own.seen.max(self.value);
+        if own.other as usize == self.board.n {
+            own.place = Place::Take as u8;
+            own.other = 0;
+        } else {
+            own.place = Place::Scan as u8;
+            own.other += 1;
+        }
+        own.reached()
+    }
+
+    fn take(self) -> Turn
+        ensures { result ≡ taken self.board.terms self.own }
+    {
+        let mut own = self.own;
+        let seen = own.seen;
+        own.seen = 0;
+        if seen < self.board.terms.ceiling {
+            own.token = seen + 1;
+            own.place = Place::Lower as u8;
+            return own.reached();
+        }
+        own.choosing = 0;
+        own.place = Place::DropSession as u8;
+        Turn {
+            after: own,
+            answer: Answer::TurnedAway,
+        }
+    }
+
+    fn see_choosing(self) -> Turn
+        ensures { result ≡ saw_choosing self.value self.own }
+    {
+        let mut own = self.own;
+        own.place = if self.value == 0 {
+            Place::SeeToken as u8
+        } else {
+            Place::SeeSession as u8
+        };
+        own.reached()
+    }
+
+    fn see_session(self) -> Turn
+        ensures { result ≡ saw_session self.value self.own }
+    {
+        let mut own = self.own;
+        own.place = if conflict(self.value, own.want as u32) {
+            Place::SeeChoosing as u8
+        } else {
+            Place::SeeToken as u8
+        };
+        own.reached()
+    }
+
+    fn see_token(self) -> Turn
+        ensures { result ≡ saw_token self.board.n self.number self.value self.own }
+    {
+        let mut own = self.own;
+        if self.value == 0 || before(own.token, self.number, self.value, own.other as u32) {
+            return self.pass();
+        }
+        own.place = Place::SeeAgain as u8;
+        own.reached()
+    }
+
+    fn see_again(self) -> Turn
+        ensures { result ≡ saw_again self.board.n self.value self.own }
+    {
+        let mut own = self.own;
+        if conflict(self.value, own.want as u32) {
+            own.place = Place::SeeToken as u8;
+            return own.reached();
+        }
+        self.pass()
+    }
+
+    // On to the next row, or inside after the last.
+    #[tactic(auto, unfolding(crate::specs::Rules::passed))]
+    fn pass(self) -> Turn
+        ensures { result ≡ reached (passed self.board.n self.own) }
+    {
+        let mut own = self.own;
+        if own.other as usize == self.board.n {
+            own.place = Place::Inside as u8;
+            own.other = 0;
+        } else {
+            own.place = Place::SeeChoosing as u8;
+            own.other += 1;
+        }
+        own.reached()
+    }
 }

@@ -1,34 +1,44 @@
 // The three calls on a claimant's record. Each refuses by 01's list, and a refused record comes back as it was.
-ghost use Rattle.std.specs.Prelude.{◌≡◌, true, [], ◌∷◌, ◌++◌};
-ghost use Rattle.rules.specs.Rules.{open_refusals, refusals, refused, ask_refusals, asked, step_refusals, step_taken, leave_refusals, left};
-ghost use Rattle.rules.specs.Tests.{◌when◌, first};
+ghost use Rattle.std.specs.Prelude.{◌≡◌, not, []};
+ghost use Rattle.rules.specs.Tests.{first};
+ghost use Rattle.rules.specs.Rules.{reads, holds, open_refusals, refusals, refused, ask_refusals, asked, step_refusals, step_taken, leave_refusals, left};
 
-use crate::bools::{both, choose, either, within};
-use crate::{Answer, Claimant, Terms, Turn};
+use crate::steps::Stepping;
+use crate::{Answer, Board, Claimant, Place, Refusal, Terms, Turn};
 
-impl Terms {
-    // The first of the refusals 1 and 2 that is given in a table of n rows, or else the number that is handed in.
-    pub fn refusal(self, n: usize, otherwise: u8) -> u8
-        ensures { result ≡ first (open_refusals n self ++ (otherwise when true ∷ [])) }
+impl Board {
+    // 1 and 2, which opening a table gives, and every call before all else.
+    #[tactic(auto, unfolding(crate::specs::Tests::first))]
+    pub fn opens(self) -> Result<(), Refusal>
+        ensures { result ≡ first (open_refusals self.n self.terms) }
     {
-        choose(
-            !within(1, 64, n as u64),
-            1,
-            choose(self.ceiling == 0, 2, otherwise),
-        )
+        if !(1..=64).contains(&self.n) {
+            return Err(Refusal::RowCount);
+        }
+        if self.terms.ceiling == 0 {
+            return Err(Refusal::NoCeiling);
+        }
+        Ok(())
+    }
+
+    // 1 to 4, which every call gives before its own. `sound` is what was found of the record.
+    #[tactic(auto, unfolding(crate::specs::Tests::first, crate::specs::Rules::refusals))]
+    fn takes(self, number: u32, sound: bool) -> Result<(), Refusal>
+        ensures { result ≡ first (refusals self.n self.terms number (not sound) []) }
+    {
+        self.opens()?;
+        if !sound {
+            return Err(Refusal::Broken);
+        }
+        if !(1..=self.n).contains(&(number as usize)) {
+            return Err(Refusal::NoClaimant);
+        }
+        Ok(())
     }
 }
 
-// The first refusal in 01's order: what every call refuses, and then the call's own number, or 0 for none.
-fn first_refusal(n: usize, terms: Terms, number: u32, broken: bool, own: u8) -> u8
-    ensures { result ≡ first (refusals n terms number broken (own when true ∷ [])) }
-{
-    let outside = !within(1, n as u64, number as u64);
-    terms.refusal(n, choose(broken, 3, choose(outside, 4, own)))
-}
-
 impl Claimant {
-    fn refused(self, refusal: u8) -> Turn
+    fn refused(self, refusal: Refusal) -> Turn
         ensures { result ≡ refused self refusal }
     {
         Turn {
@@ -37,61 +47,92 @@ impl Claimant {
         }
     }
 
-    fn ask_refusal(self, n: usize, terms: Terms, number: u32, session: u16) -> u8
-        ensures { result ≡ first (ask_refusals n terms number session self) }
+    #[tactic(auto, unfolding(crate::specs::Tests::first, crate::specs::Rules::refusals))]
+    fn may_ask(self, board: Board, number: u32, session: u16) -> Result<(), Refusal>
+        ensures { result ≡ first (ask_refusals board.n board.terms number session self) }
     {
-        let own = choose(session == 0, 5, choose(self.place != 0, 6, 0));
-        first_refusal(n, terms, number, !self.well_formed(n, terms), own)
+        board.takes(number, self.well_formed(board))?;
+        if session == 0 {
+            return Err(Refusal::NoSession);
+        }
+        if self.place != Place::Rest as u8 {
+            return Err(Refusal::NotAtRest);
+        }
+        Ok(())
     }
 
-    fn step_refusal(self, n: usize, terms: Terms, number: u32, value: u32) -> u8
-        ensures { result ≡ first (step_refusals n terms number value self) }
+    // Whether the value can be that of the register read next; any can, where none is.
+    fn may_read(self, terms: Terms, value: u32) -> bool
+        ensures { result ≡ holds (reads self) terms value }
     {
-        let sound = both(self.well_formed(n, terms), self.reads().holds(terms, value));
-        let own = choose(either(self.place == 0, self.place == 10), 8, 0);
-        first_refusal(n, terms, number, !sound, own)
+        match self.reads() {
+            Some(register) => register.holds(terms, value),
+            None => true,
+        }
     }
 
-    fn leave_refusal(self, n: usize, terms: Terms, number: u32) -> u8
-        ensures { result ≡ first (leave_refusals n terms number self) }
+    #[tactic(auto, unfolding(crate::specs::Tests::first, crate::specs::Rules::refusals))]
+    fn may_step(self, board: Board, number: u32, value: u32) -> Result<(), Refusal>
+        ensures { result ≡ first (step_refusals board.n board.terms number value self) }
     {
-        let own = choose(self.place != 10, 7, 0);
-        first_refusal(n, terms, number, !self.well_formed(n, terms), own)
+        let sound = self.well_formed(board) && self.may_read(board.terms, value);
+        board.takes(number, sound)?;
+        if self.place == Place::Rest as u8 || self.place == Place::Inside as u8 {
+            return Err(Refusal::NoStep);
+        }
+        Ok(())
+    }
+
+    #[tactic(auto, unfolding(crate::specs::Tests::first, crate::specs::Rules::refusals))]
+    fn may_leave(self, board: Board, number: u32) -> Result<(), Refusal>
+        ensures { result ≡ first (leave_refusals board.n board.terms number self) }
+    {
+        board.takes(number, self.well_formed(board))?;
+        if self.place != Place::Inside as u8 {
+            return Err(Refusal::NotInside);
+        }
+        Ok(())
     }
 
     // Asks for a session. Touches no register, so the value is ignored.
-    pub fn ask(mut self, n: usize, terms: Terms, number: u32, _value: u32, session: u16) -> Turn
-        ensures { result ≡ asked n terms number session self }
+    #[tactic(auto, unfolding(crate::specs::Rules::asked, crate::specs::Rules::unless))]
+    pub fn ask(mut self, board: Board, number: u32, _value: u32, session: u16) -> Turn
+        ensures { result ≡ asked board.n board.terms number session self }
     {
-        let refusal = self.ask_refusal(n, terms, number, session);
-        if refusal != 0 {
+        if let Err(refusal) = self.may_ask(board, number, session) {
             return self.refused(refusal);
         }
         self.want = session;
-        self.place = 1;
+        self.place = Place::Sign as u8;
         self.reached()
     }
 
     // Takes one step, given the value of the register that `reads` names.
-    pub fn step(self, n: usize, terms: Terms, number: u32, value: u32) -> Turn
-        ensures { result ≡ step_taken n terms number value self }
+    #[tactic(auto, unfolding(crate::specs::Rules::step_taken, crate::specs::Rules::unless))]
+    pub fn step(self, board: Board, number: u32, value: u32) -> Turn
+        ensures { result ≡ step_taken board.n board.terms number value self }
     {
-        let refusal = self.step_refusal(n, terms, number, value);
-        if refusal != 0 {
+        if let Err(refusal) = self.may_step(board, number, value) {
             return self.refused(refusal);
         }
-        self.stepped(n, terms, number, value)
+        let stepping = Stepping {
+            own: self,
+            board,
+            number,
+            value,
+        };
+        stepping.turn()
     }
 
     // Leaves. Touches no register, so the value is ignored.
-    pub fn leave(mut self, n: usize, terms: Terms, number: u32, _value: u32) -> Turn
-        ensures { result ≡ left n terms number self }
+    #[tactic(auto, unfolding(crate::specs::Rules::left, crate::specs::Rules::unless))]
+    pub fn leave(mut self, board: Board, number: u32, _value: u32) -> Turn
+        ensures { result ≡ left board.n board.terms number self }
     {
-        let refusal = self.leave_refusal(n, terms, number);
-        if refusal != 0 {
+        if let Err(refusal) = self.may_leave(board, number) {
             return self.refused(refusal);
         }
-        self.place = 11;
+        self.place = Place::DropToken as u8;
         self.reached()
     }
 }

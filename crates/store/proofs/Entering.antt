@@ -7,7 +7,8 @@ use native.Mathlib.Omega.{arith}
 use lib.Dec.{eqb}
 use lib.ListN.{length}
 use borrow.Author.Tests.{ne_eqb}
-use Rattle.rules.specs.Tests.{within, Refusal, first}
+use Rattle.std.specs.Prelude.{Ok, Err}
+use Rattle.rules.specs.Tests.{within, Listed, first}
 use Rattle.rules.specs.Records.{blank}
 use Rattle.rules.specs.Places.{rows, place_at, fits, well_formed}
 use Rattle.rules.specs.Rules.{read_at, reads, refusals, unless, asked, step_taken, left}
@@ -17,18 +18,18 @@ use Rattle.rules.specs.declared.Turn.{Turn}
 use Rattle.rules.specs.declared.Call.{Call}
 use Rattle.rules.specs.declared.Call.TheVariants.{Ask, Step, Leave}
 use Rattle.rules.specs.declared.Answer.TheVariants.{Refused}
+use Rattle.rules.specs.declared.Refusal.TheVariants.{NoClaimant}
 use Rattle.rules.proofs.Choices.{decide, within_true, within_holds}
 use Rattle.rules.proofs.Calls.{called_here, called_elsewhere}
 use Rattle.rules.proofs.Rows.{own_row}
 use Rattle.rules.proofs.Laws.{call_keeps_sound}
-use Rattle.store.specs.declared.Entry.{Entry}
-use Rattle.store.specs.declared.Entry.TheVariants.{Made, Barred}
+use Rattle.store.specs.declared.Barred.{Barred}
 use Rattle.store.specs.Entries.{written, caller_of, turn_in}
-use Rattle.store.specs.Schedules.{kind_in, claimant_in, is_nine, decoded, entered}
-use Rattle.store.proofs.Records.{written_here, written_out, written_same, record_out, nowhere}
+use Rattle.store.specs.Schedules.{Entry, kind_in, claimant_in, is_nine, decoded, entered}
+use Rattle.store.proofs.Records.{written_here, written_same, written_nowhere, record_nowhere}
 
 -- The turn of a call is the rule's, on the records of the table.
-turn_is : (k : Terms) (c : Call) (t : Table) → turn_in k (Made c) t ≡ turn k c t
+turn_is : (k : Terms) (c : Call) (t : Table) → turn_in k (Ok c) t ≡ turn k c t
 unfolding turn_in turn value_read caller
 turn_is k (Ask w s) t = refl
 turn_is k (Step w) t = refl
@@ -41,12 +42,12 @@ blank_formed n k = refl
 
 -- A claimant that has no row has a blank record, and its number is the first refusal.
 module _ (n : ℕ) (k : Terms) (w : ℕ) (o : Opens n k) (e : within 1 n w ≡ false) where
-  fourth : (own : List Refusal) → first (refusals n k w false own) ≡ 4
+  fourth : (own : List Listed) → first (refusals n k w false own) ≡ Err NoClaimant
   unfolding refusals first
   fourth own = rw (within_holds 1 64 n o.some_row o.rows, ne_eqb k.ceiling 0 (omega (arith, o.ceiling_set)), e)
 
 turn_nowhere : (k : Terms) (c : Call) (t : Table) → Opens (length t) k → within 1 (length t) (caller c) ≡ false → record_of t (caller c) ≡ blank
-    → turn k c t ≡ record { after = blank; answer = Refused 4 }
+    → turn k c t ≡ record { after = blank; answer = Refused NoClaimant }
 unfolding turn caller asked step_taken left unless reads read_at place_at
 turn_nowhere k (Ask w s) t o e b = rw (b, blank_formed (length t) k, fourth (length t) k w o e)
 turn_nowhere k (Step w) t o e b = rw (b, blank_formed (length t) k, fourth (length t) k w o e)
@@ -65,14 +66,14 @@ named e =
     decide (is_nine e) (λ a. rw a)
     (λ a. rw a (decide (eqb (kind_in e) 0) (λ b. rw b) (λ b. rw b (decide (eqb (kind_in e) 1) (λ d. rw d) (λ d. rw d)))))
 
-pub barred : (k : Terms) (w r : ℕ) (t : Table) → Does (Barred w r) (turn_in k (Barred w r) t) t (record { table = t; answer = Refused r })
+pub barred : (k : Terms) (b : Barred) (t : Table) → Does (Err b) (turn_in k (Err b) t) t (record { table = t; answer = Refused b.refusal })
 unfolding turn_in
-barred k w r t = record { table = written_same t w; answer = refl; own = refl }
+barred k b t = record { table = written_same t b.who; answer = refl; own = refl }
 
 pub entered_is : (k : Terms) (e : Entry) (t : Table) → Sound (length t) k t → Does e (turn_in k e t) t (entered k e t)
 unfolding entered
-entered_is k (Barred w r) t s = barred k w r t
-entered_is k (Made c) t s =
+entered_is k (Err b) t s = barred k b t
+entered_is k (Ok c) t s =
     rw (turn_is k c t)
     (decide (within 1 (length t) (caller c))
     (λ e.
@@ -81,16 +82,12 @@ entered_is k (Made c) t s =
     rw (called_here s c l.0 l.1)
     (record { table = written_here t (caller c) x l.0; answer = refl; own = sym (own_row t (caller c) x l.0 l.1) }))
     (λ e.
-    let out = nowhere (length t) (caller c) e in
-    let none = record_out t (caller c) out in
-    rw (called_elsewhere s c e, turn_nowhere k c t s.opens e (sym none))
-    (record { table = sym (written_out t (caller c) blank out); answer = refl; own = none })))
-
-pub entered_on : {n : ℕ} {k : Terms} {t : Table} (e : Entry) → Sound n k t → Does e (turn_in k e t) t (entered k e t)
-entered_on {n} {k} {t} e s = entered_is k e t (rw s.length_is s)
+    let none = record_nowhere t (caller c) e in
+    rw (called_elsewhere s c e, turn_nowhere k c t s.opens e none)
+    (record { table = written_nowhere t (caller c) blank e; answer = refl; own = sym none })))
 
 -- An entry keeps the table sound.
 pub sound_entered : {n : ℕ} {k : Terms} {t : Table} (e : Entry) → Sound n k t → Sound n k (entered k e t).table
 unfolding entered
-sound_entered {n} {k} {t} (Made c) s = call_keeps_sound n k c t s
-sound_entered (Barred w r) s = s
+sound_entered {n} {k} {t} (Ok c) s = call_keeps_sound n k c t s
+sound_entered (Err b) s = s

@@ -1,5 +1,7 @@
--- Nothing else meets a public function's contract: two results, and two last contents of all that was lent, that meet it at the same arguments are the same.
---     Only             of a function, by its contract as its source states it: the fact φ that it ensures, that it ensures just that, and that φ leaves no choice
+-- Nothing else meets a public function's contract: two results, and two last contents of all that was lent, that meet it
+-- at the same arguments are the same.
+--     Only             of a function, by its contract as its source states it: the fact φ that it ensures, that it ensures
+--                      just that, and that φ leaves no choice
 -- Assumes nothing.
 use mathlib.Core.Path.{◌≡◌, refl}
 use lib.ListN.{length}
@@ -14,11 +16,11 @@ use denote.Triple.Clauses.{Clauses, Ended, Lasts, at_exit}
 use denote.Triple.Entry.{Args, Res}
 use Rattle.rules.specs.Tables.{called}
 pub use Rattle.rules.proofs.Only.{same}
-use Rattle.store.specs.Runs.{lowest_broken, outcome_of, open_refusal, opening, running}
+use Rattle.store.specs.Runs.{lowest_broken, open_refusal, opening, running}
 use Rattle.store.specs.Standings.{standing_of}
 use Rattle.store.specs.Trials.{trial_left, trial_outcome}
 use Rattle.store.specs.Schedules.{decoded}
-use Rattle.store.specs.contracts.Entry.decoded as #decoded
+use Rattle.store.specs.contracts.entries.decoded as #decoded
 use Rattle.store.specs.contracts.lowest_broken as #lowest_broken
 use Rattle.store.specs.contracts.open as #open
 use Rattle.store.specs.contracts.call as #call
@@ -31,12 +33,14 @@ Contract T = (M : Type 1) (𝓤 : Ura M) (𝓛 : Logic 𝓤) → (Memory → SPr
 
 pub record Only (T : Ended) (c : Contract T) : Type 2 where
   pub φ : (κs : Lfts T.signature.lifetimes) (a : Args T.signature κs) → Res T.signature κs → Lasts T κs a → Type 0
-  pub ensures : {M : Type 1} {𝓤 : Ura M} (𝓛 : Logic 𝓤) (mem : Memory → SProp 𝓤) (run : Routine → Fun 𝓤) (κs : Lfts T.signature.lifetimes) (a : Args T.signature κs) (g : (c M 𝓤 𝓛 mem run κs a).ghost)
+  pub ensures : {M : Type 1} {𝓤 : Ura M} (𝓛 : Logic 𝓤) (mem : Memory → SProp 𝓤) (run : Routine → Fun 𝓤)
+      (κs : Lfts T.signature.lifetimes) (a : Args T.signature κs) (g : (c M 𝓤 𝓛 mem run κs a).ghost)
       (r : Res T.signature κs) (ws : Lasts T κs a) → (c M 𝓤 𝓛 mem run κs a).ensures g r (at_exit T κs a ws) ≡ fact 𝓤 (φ κs a r ws)
-  pub only : (κs : Lfts T.signature.lifetimes) (a : Args T.signature κs) (r r' : Res T.signature κs) (ws ws' : Lasts T κs a) → φ κs a r ws → φ κs a r' ws' → (r ≡ r') × (ws ≡ ws')
+  pub only : (κs : Lfts T.signature.lifetimes) (a : Args T.signature κs) (r r' : Res T.signature κs) (ws ws' : Lasts T κs a)
+      → φ κs a r ws → φ κs a r' ws' → (r ≡ r') × (ws ≡ ws')
 
-pub only_entry_decoded : Only #decoded.ended (λ M 𝓤. #decoded.clauses)
-only_entry_decoded = record {
+pub only_decoded : Only #decoded.ended (λ M 𝓤. #decoded.clauses)
+only_decoded = record {
   φ = λ κs a r ws. r ≡ decoded a.0;
   ensures = λ 𝓛 mem run κs a g r ws. refl;
   only = λ κs a r r' ws ws' p q. (same p q, refl);
@@ -51,7 +55,7 @@ only_lowest_broken = record {
 
 pub only_open : Only #open.ended (λ M 𝓤. #open.clauses)
 only_open = record {
-  φ = λ κs a r ws. (ws.0 ≡ opening a.1.0 a.0.now) × (r ≡ outcome_of (open_refusal (length a.0.now) a.1.0));
+  φ = λ κs a r ws. (ws.0 ≡ opening a.1.0 a.0.now) × (r ≡ open_refusal (length a.0.now) a.1.0);
   ensures = λ 𝓛 mem run κs a g r ws. refl;
   only = λ κs a r r' ws ws' p q. (same p.1 q.1, λ i. (same p.0 q.0 i, (tt, tt)));
 }

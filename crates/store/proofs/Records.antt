@@ -1,59 +1,40 @@
 -- Where a claimant's record stands in the row, and what is read and written there.
-use mathlib.Core.Path.{◌≡◌, refl, sym, ap, ◌∙◌}
+use mathlib.Core.Path.{◌≡◌, refl}
 use mathlib.Core.Bool.{false}
-use mathlib.Core.Logic.{◌≢◌}
-use Prim.Native.Nat.{ℕ, ◌-◌, ◌≤◌, ◌<◌}
+use Prim.Native.Nat.{ℕ, zero, suc, ◌-◌, ◌≤◌, ◌<◌}
+use native.Mathlib.Numerals.{unary_clauses}
 use native.Mathlib.Omega.{arith}
-use lib.Dec.{eqb}
-use lib.ListN.{length, get_or, set}
-use lib.Seq.{set_out}
-use borrow.Author.Tests.{le-leb, leb-false, eqb-true, eqb-false, ne_eqb}
+use lib.ListN.{length, set}
+use lib.Seq.{set_out, set-get_or}
+use borrow.Author.Tests.{le-leb, leb-false}
 use Rattle.rules.specs.Tests.{within}
 use Rattle.rules.specs.Records.{blank}
 use Rattle.rules.specs.Tables.{Table, record_of}
 use Rattle.rules.specs.declared.Claimant.{Claimant}
-use Rattle.rules.proofs.Choices.{decide, within_true}
-use Rattle.rules.proofs.Rows.{record_at, same_record, beyond}
-use Rattle.store.specs.Entries.{row_at, written}
-
--- A number that is not 0 is a row's index and one.
-at_index : (n w : ℕ) → w ≢ 0 → row_at n w ≡ w - 1
-unfolding row_at
-at_index n w h = rw (ne_eqb w 0 h)
+use Rattle.rules.proofs.Rows.{beyond}
+use Rattle.store.specs.Entries.{written}
 
 pub written_here : (t : Table) (w : ℕ) (c : Claimant) → 1 ≤ w → written t w c ≡ set t (w - 1) c
 unfolding written
-written_here t w c h = ap (λ (i : ℕ). set t i c) (at_index (length t) w (omega arith))
-
-pub written_out : (t : Table) (w : ℕ) (c : Claimant) → length t ≤ row_at (length t) w → t ≡ written t w c
-unfolding written
-written_out t w c h = sym (set_out t (row_at (length t) w) c h)
-
-pub record_in : (t : Table) (w : ℕ) → row_at (length t) w < length t → get_or t (row_at (length t) w) blank ≡ record_of t w
-unfolding row_at
-record_in t w =
-    decide (eqb w 0)
-    (λ e. rw e (λ h. absurd (omega arith)))
-    (λ e. rw e (λ h. sym (record_at t w (omega (arith, eqb-false w 0 e)))))
-
-pub record_out : (t : Table) (w : ℕ) → length t ≤ row_at (length t) w → blank ≡ record_of t w
-unfolding row_at record_of
-record_out t w =
-    decide (eqb w 0)
-    (λ e. rw (eqb-true w 0 e) (λ h. refl))
-    (λ e. rw e (λ h. sym (beyond t w (omega (arith, eqb-false w 0 e)))))
-
--- A number that is within no row is nobody's, and nothing is written for it.
-pub nowhere : (n w : ℕ) → within 1 n w ≡ false → n ≤ row_at n w
-unfolding row_at
-nowhere n w h =
-    decide (eqb w 0)
-    (λ e. rw e (omega arith))
-    (λ e. rw e (let l = leb-false w n (rw (le-leb 1 w (omega (arith, eqb-false w 0 e))) at h) in omega arith))
+written_here t zero c h = absurd (omega arith)
+written_here t (suc w) c h = simp unary_clauses
 
 -- A record that is written as it was changes nothing.
 pub written_same : (t : Table) (w : ℕ) → written t w (record_of t w) ≡ t
-written_same t w =
-    decide (within 1 (length t) w)
-    (λ e. let l = within_true 1 (length t) w e in written_here t w (record_of t w) l.0 ∙ same_record t w l.0)
-    (λ e. sym (written_out t w (record_of t w) (nowhere (length t) w e)))
+unfolding written record_of
+written_same t zero = refl
+written_same t (suc w) = set-get_or t w blank
+
+-- A number that is within no row is nobody's, and nothing is written for it.
+past : (n w : ℕ) → within 1 n (suc w) ≡ false → n < suc w
+past n w e = leb-false (suc w) n (rw (le-leb 1 (suc w) (omega arith)) at e)
+
+pub written_nowhere : (t : Table) (w : ℕ) (c : Claimant) → within 1 (length t) w ≡ false → written t w c ≡ t
+unfolding written
+written_nowhere t zero c e = refl
+written_nowhere t (suc w) c e = let l = past (length t) w e in set_out t w c (omega arith)
+
+pub record_nowhere : (t : Table) (w : ℕ) → within 1 (length t) w ≡ false → record_of t w ≡ blank
+unfolding record_of
+record_nowhere t zero e = refl
+record_nowhere t (suc w) e = beyond t (suc w) (past (length t) w e)

@@ -1,102 +1,75 @@
--- A run, entry by entry: what is left of the schedule, run from the table as it is, ends as the whole does.
-use mathlib.Core.Path.{◌≡◌, refl, sym, ◌∙◌}
-use mathlib.Core.Bool.{true, false, not}
-use mathlib.Core.List.{List, [], ◌∷◌, ◌++◌, map}
-use Prim.Native.Nat.{ℕ, ◌+◌, ◌*◌, ◌<◌, ◌≤◌}
+-- A run, entry by entry: what one more entry does after those before it.
+use mathlib.Core.Path.{◌≡◌, refl, ◌∙◌}
+use mathlib.Core.List.{List, [], ◌∷◌, ◌++◌}
+use Prim.Native.Nat.{ℕ, ◌+◌, ◌<◌}
 use native.Mathlib.Numerals.{add-one}
-use native.Mathlib.Omega.{arith}
-use lib.Dec.{eqb}
-use lib.ListN.{length, get_or, drop}
-use lib.Seq.{drop-cons, drop-length}
-use borrow.Author.Tests.{eq-eqb, ne_eqb}
-use Rattle.rules.specs.Answers.{byte_of}
+use lib.ListN.{length, get_or, take}
+use lib.Seq.{take-suc}
+use Rattle.std.specs.Prelude.{is_some}
+use Rattle.rules.specs.Tests.{Verdict}
 use Rattle.rules.specs.Tables.{Table, record_of, Sound}
-use Rattle.rules.specs.declared.Claimant.{Claimant}
 use Rattle.rules.specs.declared.Terms.{Terms}
-use Rattle.rules.specs.declared.Answer.{Answer}
-use Rattle.store.specs.Runs.{outcome_of, lowest_broken, run_refusal, running}
-use Rattle.store.specs.Schedules.{claimant_in, decoded, entered, ran, answered}
-use Rattle.store.specs.Trials.{five, traced, trial_refusal, left_unless}
-use Rattle.store.proofs.Entering.{sound_entered}
-use Rattle.store.proofs.Judging.{run_sound}
+use Rattle.rules.specs.declared.Turn.{Turn}
+use Rattle.store.specs.Entries.{written, caller_of, turn_in}
+use Rattle.store.specs.Schedules.{Entry, claimant_in, decoded, entered, ran, answered}
+use Rattle.store.specs.Runs.{lowest_broken, run_refusal, ran_unless, running}
+use Rattle.store.specs.Trials.{five, traced}
 use Rattle.store.proofs.Lowest.{broken_is}
+use Rattle.store.proofs.Entering.{Does, named, entered_is, sound_entered}
 
--- The table t is sound, and i entries have led to it.
-pub record RanTo (n : ℕ) (k : Terms) (es : List ℕ) (t₀ t : Table) (i : ℕ) : Type 0 where
-  pub sound : Sound n k t
-  pub table : ran k es t₀ ≡ ran k (drop i es) t
-
-module _ {n : ℕ} {k : Terms} (es : List ℕ) (t₀ : Table) where
-  pub ran_start : Sound n k t₀ → RanTo n k es t₀ t₀ 0
-  ran_start s = record { sound = s; table = refl }
-
-  pub ran_end : {t : Table} {i : ℕ} → RanTo n k es t₀ t i → i ≡ length es → t ≡ ran k es t₀
+module _ (k : Terms) (e : ℕ) where
+  ran_push : (es : List ℕ) (t : Table) → ran k (es ++ e ∷ []) t ≡ (entered k (decoded e) (ran k es t)).table
   unfolding ran
-  ran_end {t} {i} r e =
-      let none : drop i es ≡ [] = rw e (drop-length es) in
-      sym (r.table ∙ rw none)
+  ran_push [] t = refl
+  ran_push (x ∷ es) t = ran_push es (entered k (decoded x) t).table
 
-  module _ {t : Table} {i : ℕ} (t' : Table) (h : i < length es) (e : t' ≡ (entered k (decoded (get_or es i 0)) t).table) where
-    pub ran_step : RanTo n k es t₀ t i → RanTo n k es t₀ t' (i + 1)
-    unfolding ran
-    ran_step r = record {
-      sound = rw e (sound_entered (decoded (get_or es i 0)) r.sound);
-      table = r.table ∙ rw (e, add-one, drop-cons es i 0);
-    }
+  answered_push : (es : List ℕ) (t : Table) → answered k (es ++ e ∷ []) t ≡ answered k es t ++ (entered k (decoded e) (ran k es t)).answer ∷ []
+  unfolding ran answered
+  answered_push [] t = refl
+  answered_push (x ∷ es) t = rw (answered_push es (entered k (decoded x) t).table)
 
--- What is still to be answered after i entries that have led to this table.
-abbrev pub to_come : Terms → (es : List ℕ) → (i : ℕ) → Table → List ℕ
-to_come k es i t = map byte_of (answered k (drop i es) t)
+  traced_push : (es : List ℕ) (t : Table)
+      → let d = entered k (decoded e) (ran k es t) in traced k (es ++ e ∷ []) t ≡ traced k es t ++ five (record_of d.table (claimant_in e)) d.answer
+  unfolding ran traced
+  traced_push [] t = refl
+  traced_push (x ∷ es) t = rw (traced_push es (entered k (decoded x) t).table)
 
--- What the next entry is answered, and what it leaves, come before what the later ones do.
-module _ (k : Terms) (es : List ℕ) (t t' : Table) (i : ℕ) (h : i < length es) (e : t' ≡ (entered k (decoded (get_or es i 0)) t).table) (a : Answer) (ea : a ≡ (entered k (decoded (get_or es i 0)) t).answer) where
-  pub answered_step : map byte_of (answered k (drop i es) t) ≡ (byte_of a ∷ []) ++ map byte_of (answered k (drop (i + 1) es) t')
-  unfolding answered
-  answered_step = rw (e, ea, add-one, drop-cons es i 0)
+ran_sound : {n : ℕ} {k : Terms} (es : List ℕ) (t : Table) → Sound n k t → Sound n k (ran k es t)
+unfolding ran
+ran_sound [] t s = s
+ran_sound {n} {k} (e ∷ es) t s = ran_sound {n = n} {k = k} es (entered k (decoded e) t).table (sound_entered (decoded e) s)
 
-  pub traced_step : (c : Claimant) → c ≡ record_of t' (claimant_in (get_or es i 0)) → traced k (drop i es) t ≡ five c a ++ traced k (drop (i + 1) es) t'
-  unfolding traced
-  traced_step c ec = rw (ec, e, ea, add-one, drop-cons es i 0)
+-- The turn r left the table t' after i entries and one more.
+pub record Went (k : Terms) (es : List ℕ) (t₀ : Table) (i : ℕ) (t' : Table) (r : Turn) : Type 0 where
+  pub rows : t' ≡ ran k (take (i + 1) es) t₀
+  pub answers : answered k (take (i + 1) es) t₀ ≡ answered k (take i es) t₀ ++ r.answer ∷ []
+  pub fives : traced k (take (i + 1) es) t₀ ≡ traced k (take i es) t₀ ++ five r.after r.answer
 
-module _ (k : Terms) (es : List ℕ) (t : Table) (i : ℕ) (e : i ≡ length es) where
-  pub answered_end : map byte_of (answered k (drop i es) t) ≡ []
-  unfolding answered
-  answered_end = rw (e, drop-length es)
-
-  pub traced_end : traced k (drop i es) t ≡ []
-  unfolding traced
-  traced_end = rw (e, drop-length es)
-
--- The outcome of a run, by the refusal that its code finds.
-module _ (k : Terms) (es row : List ℕ) (t : Table) where
-  abbrev r : ℕ
-  r = run_refusal (length t) k (not (eqb (lowest_broken k t) 0)) (length es) (length row)
-
-  abbrev Gives : Table → List ℕ → ℕ → Type 0
-  Gives t' row' o = (t' ≡ (running k es row t).rows) × (row' ≡ (running k es row t).answers) × (outcome_of o ≡ (running k es row t).outcome)
-
-  pub run_refused : 0 < r → Gives t row r
-  unfolding running
-  run_refused h =
-      let e : eqb r 0 ≡ false = ne_eqb r 0 (omega arith) in
-      rw (← broken_is k t, e) (refl, refl, refl)
-
-  pub run_opens : r ≡ 0 → Sound (length t) k t × (length es ≤ length row)
-  run_opens h = run_sound k t (length es) (length row) (rw (← broken_is k t) h)
-
-  pub run_done : r ≡ 0 → (t' : Table) (row' : List ℕ) → t' ≡ ran k es t → row' ≡ map byte_of (answered k es t) ++ drop (length es) row → Gives t' row' 0
-  unfolding running
-  run_done h t' row' et er =
-      let e : eqb r 0 ≡ true = eq-eqb r 0 h in
-      rw (← broken_is k t, e) (et, er, refl)
-
--- The same of a trace.
-module _ (k : Terms) (es ls : List ℕ) (t : Table) where
+module _ (k : Terms) (es : List ℕ) (t₀ : Table) (i : ℕ) (s : Sound (length t₀) k t₀) (l : i < length es) where
   abbrev x : ℕ
-  x = trial_refusal (length t) k (length es) (length ls)
+  x = get_or es i 0
 
-  pub trace_refused : 0 < x → ls ≡ left_unless x k es ls t
-  trace_refused h = rw (ne_eqb x 0 (omega arith))
+  abbrev before : Table
+  before = ran k (take i es) t₀
 
-  pub trace_done : x ≡ 0 → (ls' : List ℕ) → ls' ≡ traced k es t ++ drop (5 * length es) ls → ls' ≡ left_unless x k es ls t
-  trace_done h ls' e = rw (eq-eqb x 0 h) e
+  next : Does (decoded x) (turn_in k (decoded x) before) before (entered k (decoded x) before)
+  next = let z = ran_sound (take i es) t₀ s in entered_is k (decoded x) before (rw z.length_is z)
+
+  went : Went k es t₀ i (written before (caller_of (decoded x)) (turn_in k (decoded x) before).after) (turn_in k (decoded x) before)
+  went = record {
+    rows = next.table ∙ rw (add-one, take-suc es i 0, ran_push k x (take i es) t₀);
+    answers = rw (add-one, take-suc es i 0, answered_push k x (take i es) t₀, next.answer);
+    fives = rw (add-one, take-suc es i 0, traced_push k x (take i es) t₀, next.answer, next.own, named x);
+  }
+
+  pub went_on : {t t' : Table} {e : Entry} {r : Turn} → t ≡ before → e ≡ decoded x
+      → (t' ≡ written t (caller_of e) (turn_in k e t).after) × (r ≡ turn_in k e t)
+      → Went k es t₀ i t' r
+  went_on p q f = rw (f.0, f.1, q, p) went
+
+-- What a run gives back, by what its code finds of the table.
+pub run_is : (k : Terms) (es row : List ℕ) (t : Table) {v : Verdict}
+    → v ≡ run_refusal (length t) k (is_some (lowest_broken k t)) (length es) (length row)
+    → running k es row t ≡ ran_unless v k es row t
+unfolding running
+run_is k es row t e = rw (e, broken_is k t)

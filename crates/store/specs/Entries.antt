@@ -1,6 +1,7 @@
--- What the functions inside the store compute, for their contracts: one entry on the record that it is for, the table being judged already. The other modules say what it comes to.
-use Rattle.std.specs.Prelude.{ℕ, ◌-◌, Bool, [], ◌∷◌, ◌++◌, eqb, ltb, length, set}
-use Rattle.rules.specs.Tests.{pick, ◌when◌, first}
+-- What the functions inside the store compute, for their contracts: one entry on the record that it is for, the table being judged
+-- already. The other modules say what it comes to.
+use Rattle.std.specs.Prelude.{ℕ, zero, suc, Bool, [], ◌∷◌, ◌++◌, length, set, Option, None, Some, Ok, Err}
+use Rattle.rules.specs.Tests.{◌when◌, Verdict, first, by_verdict}
 use Rattle.rules.specs.Rules.{reads, value_in, open_refusals, asked, step_taken, left}
 use Rattle.rules.specs.Tables.{Table, record_of, row_read, caller}
 use Rattle.rules.specs.declared.Claimant.{Claimant}
@@ -8,22 +9,24 @@ use Rattle.rules.specs.declared.Terms.{Terms}
 use Rattle.rules.specs.declared.Turn.{Turn}
 use Rattle.rules.specs.declared.Call.{Call}
 use Rattle.rules.specs.declared.Call.TheVariants.{Ask, Step, Leave}
+use Rattle.rules.specs.declared.Refusal.TheVariants.{Broken}
 use Rattle.rules.specs.declared.Answer.TheVariants.{Refused}
-use Rattle.store.specs.declared.Entry.{Entry}
-use Rattle.store.specs.declared.Entry.TheVariants.{Made, Barred}
+use Rattle.store.specs.Schedules.{Entry}
 
--- Where the record of claimant w stands in a row of n records; n or more where there is none.
-unfoldable pub row_at : (n w : ℕ) → ℕ
-row_at n w = pick (eqb w 0) n (w - 1)
+-- Where the record of claimant w stands in a row, counted from 0. Number 0 is nobody.
+unfoldable pub row_at : (w : ℕ) → Option ℕ
+row_at zero = None
+row_at (suc w) = Some w
 
 -- The table with that record written, or as it was where there is none.
 unfoldable pub written : Table → (w : ℕ) → Claimant → Table
-written t w c = set t (row_at (length t) w) c
+written t zero c = t
+written t (suc w) c = set t w c
 
 -- Who makes the entry's call, or would have made it.
 abbrev pub caller_of : Entry → ℕ
-caller_of (Made c) = caller c
-caller_of (Barred w r) = w
+caller_of (Ok c) = caller c
+caller_of (Err b) = b.who
 
 -- The rule for a call, on the caller's own record and the one that it looks at.
 abbrev pub turn_on : (n : ℕ) → Terms → Call → (own looked : Claimant) → Turn
@@ -32,20 +35,16 @@ turn_on n k (Step w) c d = step_taken n k w (value_in (reads c) d) c
 turn_on n k (Leave w) c d = left n k w c
 
 abbrev pub turn_for : (n : ℕ) → Terms → Entry → (own looked : Claimant) → Turn
-turn_for n k (Made c) own d = turn_on n k c own d
-turn_for n k (Barred w r) own d = record { after = own; answer = Refused r }
+turn_for n k (Ok c) own d = turn_on n k c own d
+turn_for n k (Err b) own d = record { after = own; answer = Refused b.refusal }
 
 -- The turn of an entry in a table.
 unfoldable pub turn_in : Terms → Entry → Table → Turn
 turn_in k e t = turn_for (length t) k e (record_of t (caller_of e)) (record_of t (row_read (reads (record_of t (caller_of e)))))
 
 -- 1, 2 and 3, which bar each call on a table.
-unfoldable pub table_bar : (n : ℕ) → Terms → (broken : Bool) → ℕ
-table_bar n k broken = first (open_refusals n k ++ (3 when broken ∷ []))
+unfoldable pub table_bar : (n : ℕ) → Terms → (broken : Bool) → Verdict
+table_bar n k broken = first (open_refusals n k ++ (Broken when broken ∷ []))
 
-abbrev pub unless_barred : (refusal : ℕ) → Call → Entry
-unless_barred r c = pick (eqb r 0) (Made c) (Barred (caller c) r)
-
--- As many rows as a trial has claimants; none for more than 64, which is refused as none is.
-unfoldable pub rows_for : (claimants : ℕ) → ℕ
-rows_for n = pick (ltb 64 n) 0 n
+abbrev pub unless_barred : Verdict → Call → Entry
+unless_barred v c = by_verdict v (Ok c) (λ r. Err (record { who = caller c; refusal = r }))

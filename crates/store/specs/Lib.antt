@@ -1,4 +1,5 @@
--- What the store promises, in 01's order: schedules, opening and running, trials, standings; 01's numbers for its answers; what one entry does to one record; and laws for the layers above.
+-- What the store promises, in 01's order: schedules, opening and running, trials, standings; 01's numbers for its answers; what one
+-- entry does to one record; and laws for the layers above.
 pub mod Schedules
 pub mod Runs
 pub mod Trials

@@ -1,49 +1,54 @@
 -- What opening and running give back of all that was lent to them. Refused, they change nothing.
-use Rattle.std.specs.Prelude.{ℕ, suc, Bool, not, List, [], ◌∷◌, ◌++◌, map, eqb, ltb, length, drop}
-use Rattle.rules.specs.Tests.{pick, ◌when◌, first}
+use Rattle.std.specs.Prelude.{ℕ, ◌+◌, Bool, not, List, [], ◌∷◌, ◌++◌, map, ltb, length, drop, position, Option, option_map, Ok, Err}
+use Rattle.rules.specs.Tests.{◌when◌, Verdict, first, by_verdict}
 use Rattle.rules.specs.Places.{well_formed}
 use Rattle.rules.specs.Answers.{byte_of}
 use Rattle.rules.specs.Rules.{open_refusals}
 use Rattle.rules.specs.Tables.{Table, opened, all_well_formed}
 use Rattle.rules.specs.declared.Terms.{Terms}
-use Rattle.store.specs.declared.Outcome.{Outcome}
-use Rattle.store.specs.declared.Outcome.TheVariants.{Done, Refused}
+use Rattle.rules.specs.declared.Board.{Board}
+use Rattle.rules.specs.declared.Refusal.TheVariants.{Broken, NoRoom}
+use Rattle.store.specs.declared.refusals.Judged.{Judged}
 use Rattle.store.specs.Schedules.{ran, answered}
 
--- The number of the first refusal given, 0 for none, as an outcome.
-abbrev pub outcome_of : ℕ → Outcome
-outcome_of r = pick (eqb r 0) Done (Refused r)
+-- Where the first record that is not well-formed stands, counted from 0 ..
+abbrev pub first_broken : Terms → Table → Option ℕ
+first_broken k t = position (λ c. not (well_formed (length t) k c)) t
 
--- The number of the lowest record that is not well-formed, where the first one's is i; 0 is none.
-unfoldable pub lowest_from : (i n : ℕ) → Terms → Table → ℕ
-lowest_from i n k [] = 0
-lowest_from i n k (c ∷ t) = pick (well_formed n k c) (lowest_from (suc i) n k t) i
+-- .. and the number of that record, counted from 1.
+abbrev pub lowest_broken : Terms → Table → Option ℕ
+lowest_broken k t = option_map (λ row. row + 1) (first_broken k t)
 
-abbrev pub lowest_broken : Terms → Table → ℕ
-lowest_broken k t = lowest_from 1 (length t) k t
+-- What the rules are told of a table.
+abbrev pub board_of : Terms → Table → Board
+board_of k t = record { n = length t; terms = k }
+
+-- What is found of a table, once for a call or for a whole run.
+abbrev pub judged_of : Terms → Table → Judged
+judged_of k t = record { board = board_of k t; broken = lowest_broken k t }
 
 -- Opening: all fields of all records 0.
-abbrev pub open_refusal : (n : ℕ) → Terms → ℕ
+abbrev pub open_refusal : (n : ℕ) → Terms → Verdict
 open_refusal n k = first (open_refusals n k)
 
 unfoldable pub opening : Terms → Table → Table
-opening k t = pick (eqb (open_refusal (length t) k) 0) (opened (length t)) t
+opening k t = by_verdict (open_refusal (length t) k) (opened (length t)) (λ r. t)
 
 -- Running: 10, an answer row shorter than the schedule, comes right after 3.
-unfoldable pub run_refusal : (n : ℕ) → Terms → (broken : Bool) → (entries places : ℕ) → ℕ
-run_refusal n k broken m l = first (open_refusals n k ++ (3 when broken ∷ 10 when ltb l m ∷ []))
+unfoldable pub run_refusal : (n : ℕ) → Terms → (broken : Bool) → (entries places : ℕ) → Verdict
+run_refusal n k broken m l = first (open_refusals n k ++ (Broken when broken ∷ NoRoom when ltb l m ∷ []))
 
 pub record Ran : Type 0 where
   pub rows : Table
   pub answers : List ℕ
-  pub outcome : Outcome
+  pub outcome : Verdict
 
 -- One answer byte for each entry, and the later bytes of the answer row as they were.
-abbrev pub ran_unless : (refusal : ℕ) → Terms → (schedule row : List ℕ) → Table → Ran
-ran_unless r k es row t =
-    pick (eqb r 0)
-    (record { rows = ran k es t; answers = map byte_of (answered k es t) ++ drop (length es) row; outcome = Done })
-    (record { rows = t; answers = row; outcome = Refused r })
+abbrev pub ran_unless : Verdict → Terms → (schedule row : List ℕ) → Table → Ran
+ran_unless v k es row t =
+    by_verdict v
+    (record { rows = ran k es t; answers = map byte_of (answered k es t) ++ drop (length es) row; outcome = Ok tt })
+    (λ r. record { rows = t; answers = row; outcome = Err r })
 
 unfoldable pub running : Terms → (schedule row : List ℕ) → Table → Ran
 running k es row t =

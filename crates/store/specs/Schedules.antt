@@ -1,5 +1,5 @@
 -- Schedules: what an entry says, what it does to a table, and the entries one after the other.
-use Rattle.std.specs.Prelude.{ℕ, ◌/◌, ◌%◌, Bool, not, List, [], ◌∷◌, eqb, ltb}
+use Rattle.std.specs.Prelude.{ℕ, ◌/◌, ◌%◌, Bool, not, List, [], ◌∷◌, eqb, ltb, Result, Ok, Err}
 use Rattle.rules.specs.Tests.{pick, ◌and◌, ◌or◌}
 use Rattle.rules.specs.Tables.{Table, Called, called}
 use Rattle.rules.specs.declared.Terms.{Terms}
@@ -7,8 +7,8 @@ use Rattle.rules.specs.declared.Call.{Call}
 use Rattle.rules.specs.declared.Call.TheVariants.{Ask, Step, Leave}
 use Rattle.rules.specs.declared.Answer.{Answer}
 use Rattle.rules.specs.declared.Answer.TheVariants.{Refused}
-use Rattle.store.specs.declared.Entry.{Entry}
-use Rattle.store.specs.declared.Entry.TheVariants.{Made, Barred}
+use Rattle.rules.specs.declared.Refusal.TheVariants.{NoCall}
+use Rattle.store.specs.declared.Barred.{Barred}
 
 -- An entry is kind × 16,777,216 + claimant × 65,536 + session.
 abbrev pub kind_in : ℕ → ℕ
@@ -30,13 +30,17 @@ call_of e =
     pick (eqb (kind_in e) 0) (Step (claimant_in e))
     (pick (eqb (kind_in e) 1) (Ask (claimant_in e) (session_in e)) (Leave (claimant_in e)))
 
+-- What an entry comes to: the call that it makes, or the bar.
+abbrev pub Entry : Type 0
+Entry = Result Call Barred
+
 unfoldable pub decoded : (entry : ℕ) → Entry
-decoded e = pick (is_nine e) (Barred (claimant_in e) 9) (Made (call_of e))
+decoded e = pick (is_nine e) (Err (record { who = claimant_in e; refusal = NoCall })) (Ok (call_of e))
 
 -- An entry's call is made; a barred entry is refused and changes no record.
 unfoldable pub entered : Terms → Entry → Table → Called
-entered k (Made c) t = called k c t
-entered k (Barred w r) t = record { table = t; answer = Refused r }
+entered k (Ok c) t = called k c t
+entered k (Err b) t = record { table = t; answer = Refused b.refusal }
 
 -- The table after all entries ..
 unfoldable pub ran : Terms → (schedule : List ℕ) → Table → Table

@@ -1,91 +1,81 @@
-// Which refusal decides, in 01's order, and what is answered then.
-ghost use Rattle.std.specs.Prelude.{◌≡◌, not, eqb};
-ghost use Rattle.rules.specs.Tests.{pick, within};
+// Which refusal decides, in 01's order.
+ghost use Rattle.std.specs.Prelude.{◌≡◌, is_some};
 ghost use Rattle.store.specs.Entries.{table_bar, unless_barred};
-ghost use Rattle.store.specs.Runs.{outcome_of, open_refusal, run_refusal};
+ghost use Rattle.store.specs.Runs.{run_refusal};
 ghost use Rattle.store.specs.Trials.{trial_refusal};
 ghost use Rattle.store.specs.Standings.{standing_refusal};
 
+use crate::Barred;
 use crate::entries::caller;
-use crate::{Entry, Outcome};
-use rules::{Call, Terms};
+use rules::{Board, Call, Refusal};
 
-// 1 and 2; 0 is none.
-pub(crate) fn opening(n: usize, terms: Terms) -> u8
-    ensures { result ≡ open_refusal n terms }
-{
-    terms.refusal(n, 0)
+// What was found of a table, once for a call or for a whole run: its size and terms, and the lowest broken record.
+#[derive(Clone, Copy)]
+pub(crate) struct Judged {
+    pub board: Board,
+    pub broken: Option<usize>,
 }
 
-// 1, 2 and 3. `broken` is the lowest broken record, or 0.
-fn table(n: usize, terms: Terms, broken: usize) -> u8
-    ensures { result ≡ table_bar n terms (not (eqb broken 0)) }
-{
-    terms.refusal(n, when(broken != 0, 3, 0))
-}
-
-// 1, 2, 3 and 10.
-pub(crate) fn running(n: usize, terms: Terms, broken: usize, entries: usize, places: usize) -> u8
-    ensures { result ≡ run_refusal n terms (not (eqb broken 0)) entries places }
-{
-    terms.refusal(n, when(broken != 0, 3, when(places < entries, 10, 0)))
-}
-
-// 1, 2 and 10: a trial opens its table, so there is no 3.
-pub(crate) fn trial(n: usize, terms: Terms, entries: usize, places: usize) -> u8
-    ensures { result ≡ trial_refusal n terms entries places }
-{
-    terms.refusal(n, when(places / 5 < entries, 10, 0))
-}
-
-// 1, 2, 3 and 4, which is for either number.
-pub(crate) fn standing(n: usize, terms: Terms, broken: usize, a: u32, b: u32) -> u8
-    ensures { result ≡ standing_refusal n terms a b (not (eqb broken 0)) }
-{
-    terms.refusal(
-        n,
-        when(
-            broken != 0,
-            3,
-            when(outside(n, a), 4, when(outside(n, b), 4, 0)),
-        ),
-    )
-}
-
-// The refusal, where it is given, or else the later one.
-fn when(given: bool, refusal: u8, otherwise: u8) -> u8
-    ensures { result ≡ pick given refusal otherwise }
-{
-    if given { refusal } else { otherwise }
-}
-
-// No claimant has this number.
-fn outside(n: usize, number: u32) -> bool
-    ensures { result ≡ not (within 1 n number) }
-{
-    let w = number as usize;
-    if 1 <= w { !(w <= n) } else { true }
-}
-
-// The call, where the table does not bar it.
-pub(crate) fn judged(call: Call, n: usize, terms: Terms, broken: usize) -> Entry
-    ensures { result ≡ unless_barred (table_bar n terms (not (eqb broken 0))) call }
-{
-    let refusal = table(n, terms, broken);
-    if 0 < refusal {
-        return Entry::Barred {
-            who: caller(call),
-            refusal,
-        };
+impl Judged {
+    // 1, 2 and 3.
+    #[tactic(auto, unfolding(rules::specs::Tests::first, crate::specs::Entries::table_bar))]
+    fn bar(self) -> Result<(), Refusal>
+        ensures { result ≡ table_bar self.board.n self.board.terms (is_some self.broken) }
+    {
+        self.board.opens()?;
+        if self.broken.is_some() {
+            return Err(Refusal::Broken);
+        }
+        Ok(())
     }
-    Entry::Made(call)
+
+    // The call, where the table does not bar it.
+    pub(crate) fn admits(self, call: Call) -> Result<Call, Barred>
+        ensures { result ≡ unless_barred (table_bar self.board.n self.board.terms (is_some self.broken)) call }
+    {
+        match self.bar() {
+            Ok(()) => Ok(call),
+            Err(refusal) => Err(Barred {
+                who: caller(call),
+                refusal,
+            }),
+        }
+    }
+
+    // 1, 2, 3 and 10.
+    #[tactic(auto, unfolding(rules::specs::Tests::first, crate::specs::Entries::table_bar, crate::specs::Runs::run_refusal))]
+    pub(crate) fn runs(self, entries: usize, places: usize) -> Result<(), Refusal>
+        ensures { result ≡ run_refusal self.board.n self.board.terms (is_some self.broken) entries places }
+    {
+        self.bar()?;
+        if places < entries {
+            return Err(Refusal::NoRoom);
+        }
+        Ok(())
+    }
+
+    // 1, 2, 3 and 4, which is for either number.
+    #[tactic(auto, unfolding(rules::specs::Tests::first, crate::specs::Entries::table_bar, rules::specs::Rules::refusals, crate::specs::Standings::standing_refusal))]
+    pub(crate) fn compares(self, a: u32, b: u32) -> Result<(), Refusal>
+        ensures { result ≡ standing_refusal self.board.n self.board.terms a b (is_some self.broken) }
+    {
+        self.bar()?;
+        let claimants = 1..=self.board.n;
+        if claimants.contains(&(a as usize)) && claimants.contains(&(b as usize)) {
+            return Ok(());
+        }
+        Err(Refusal::NoClaimant)
+    }
 }
 
-pub(crate) fn outcome(refusal: u8) -> Outcome
-    ensures { result ≡ outcome_of refusal }
+// 1, 2 and 10: a trial opens its table, so there is no 3. A fifth of the places for each entry, and nothing can overflow.
+#[tactic(auto, unfolding(rules::specs::Tests::first, crate::specs::Trials::trial_refusal))]
+pub(crate) fn trial(board: Board, entries: usize, places: usize) -> Result<(), Refusal>
+    ensures { result ≡ trial_refusal board.n board.terms entries places }
 {
-    if refusal == 0 {
-        return Outcome::Done;
+    board.opens()?;
+    if places / 5 < entries {
+        return Err(Refusal::NoRoom);
     }
-    Outcome::Refused(refusal)
+    Ok(())
 }

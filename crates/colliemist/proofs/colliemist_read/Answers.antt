@@ -8,9 +8,9 @@ use Rattle.colliemist.specs.Count.{entries_or, claimants_or, ceiling_or}
 use Rattle.colliemist.proofs.colliemist_read.Goals as goal
 
 pub count-requires : goal.count-requires
-count-requires c = omega (arith, read_within _ _ _ _ _ (sym c.read.ensures.0 ∙ c.in-Case.is))
+count-requires c = omega (arith, read_within _ _ _ (sym c.read.ensures.0 ∙ c.in-Ok.is))
 
-pub returns-in-Case : goal.returns-in-Case
-returns-in-Case c =
-    let e = sym c.in-Case.is ∙ c.read.ensures.0 in
+pub returns-in-Ok : goal.returns-in-Ok
+returns-in-Ok c =
+    let e = sym c.in-Ok.is ∙ c.read.ensures.0 in
     (to_z-of_z w64 c.count.result (record { sfits = c.count.type_inv }) ∙ c.count.ensures ∙ ap entries_or e, c.read.ensures.1, ap (claimants_or c.args.claimants.now) e, ap (ceiling_or c.args.ceiling.now) e, ap reading_line e)

@@ -3,5 +3,5 @@ use Rattle.std.proofs.Common.{sym, ap, ◌∙◌}
 use Rattle.colliemist.specs.Count.{counted}
 use Rattle.colliemist.proofs.colliemist_report.Goals as goal
 
-pub returns-in-Short : goal.returns-in-Short
-returns-in-Short c = (ap counted (sym c.in-Short.is ∙ c.report.ensures.0), c.report.ensures.1)
+pub returns-in-None : goal.returns-in-None
+returns-in-None c = (ap counted (sym c.in-None.is ∙ c.report.ensures.0), c.report.ensures.1)

@@ -7,8 +7,8 @@ use Rattle.colliemist.specs.Count.{bytes_or}
 use Rattle.colliemist.proofs.colliemist_write.Goals as goal
 
 pub count-requires : goal.count-requires
-count-requires c = (written_within _ _ _ _ _ (sym c.write.ensures.0 ∙ c.in-Bytes.is)).0
+count-requires c = (written_within _ _ _ _ _ (sym c.write.ensures.0 ∙ c.in-Ok.is)).0
 
-pub returns-in-Refused : goal.returns-in-Refused
-returns-in-Refused c =
-    (to_z-of_z w64 c.minus.result (record { sfits = c.minus.type_inv }) ∙ c.minus.ensures ∙ ap bytes_or (sym c.in-Refused.is ∙ c.write.ensures.0), c.write.ensures.1)
+pub returns-in-Err : goal.returns-in-Err
+returns-in-Err c =
+    (to_z-of_z w64 c.minus.result (record { sfits = c.minus.type_inv }) ∙ c.minus.ensures ∙ ap bytes_or (sym c.in-Err.is ∙ c.write.ensures.0), c.write.ensures.1)

@@ -1,18 +1,12 @@
--- What is left of the schedule ends as the whole does (`RanTo`), and five numbers for each entry stand in front (`Filled`).
-use Rattle.std.proofs.Common.{◌≡◌, ◌≤◌, ◌-◌, ◌*◌, length, drop}
+-- The table is what the entries so far make of it, and five numbers for each of these stand in front.
+use Rattle.std.proofs.Common.{◌≡◌, ◌*◌, take, drop}
+use Rattle.store.specs.Schedules.{ran}
 use Rattle.store.specs.Trials.{traced}
-use Rattle.store.proofs.Filling.{Filled}
-use Rattle.store.proofs.Running.{RanTo}
 use Rattle.store.proofs.trace.Given as goal
 
 abbrev pub invariant-loop-k : goal.invariant-loop-k
 invariant-loop-k l = record {
-  within : l.k ≤ length l.schedule;
-  room : 5 * length l.schedule ≤ length l.left;
-  size : length l.left ≡ length l.fn.left;
-  ran : RanTo (length l.fn.rows) l.terms l.schedule l.fn.rows l.rows l.k;
-  filled : Filled (traced l.terms (drop 0 l.schedule) l.fn.rows) l.fn.left (traced l.terms (drop l.k l.schedule) l.rows) (5 * l.k) l.left;
+  rows : l.rows ≡ ran l.terms (take l.k l.schedule) l.fn.rows;
+  front : take (5 * l.k) l.left ≡ traced l.terms (take l.k l.schedule) l.fn.rows;
+  rest : drop (5 * l.k) l.left ≡ drop (5 * l.k) l.fn.left;
 }
-
-abbrev pub decreases-loop-k : goal.decreases-loop-k
-decreases-loop-k l = length l.schedule - l.k

@@ -1,31 +1,23 @@
--- `trial` meets its contract: its table is the first rows of an array of blank records, as many as it has claimants.
-use Rattle.std.proofs.Common.{◌≡◌, ◌∙◌, subst, length}
-use Rattle.rules.specs.Tables.{Table}
-use Rattle.store.specs.Runs.{outcome_of}
-use Rattle.store.specs.Trials.{trial_refusal, left_unless}
-use Rattle.store.proofs.Trying.{rows_fit, blank_part, part_formed, part_size, tried}
+-- `trial` meets its contract: its table is an opened one.
+use Rattle.std.proofs.Common.{◌∙◌, sym}
+use Rattle.store.specs.Trials.{trial_left, trial_outcome}
+use Rattle.store.proofs.Trying.{few_rows, room, part_is, part_size, part_sound}
 use Rattle.store.proofs.trial.Goals as goal
 
 pub slice_bounds-rows-end : goal.slice_bounds-rows-end
-slice_bounds-rows-end c = rows_fit c.args.claimants c.rows_for-n.ensures
+slice_bounds-rows-end c = few_rows c.args.claimants _ _ _ (sym c.in_ok-trial.ensures)
 
 pub slice_bounds-trace-end : goal.slice_bounds-trace-end
-slice_bounds-trace-end c =
-    part_size c.rows_for-n.result c.blank-blank.result (rows_fit c.args.claimants c.rows_for-n.ensures)
+slice_bounds-trace-end c = part_size c.args.claimants _ _ _ (sym c.in_ok-trial.ensures) c.blank-rows.ensures
 
 pub trace-requires : goal.trace-requires
-trace-requires c =
-    part_formed c.rows_for-n.result c.terms_of-terms.result c.blank-blank.result c.blank-blank.ensures (rows_fit c.args.claimants c.rows_for-n.ensures)
+trace-requires c = record {
+  sound = part_sound c.args.claimants _ _ _ (sym c.in_ok-trial.ensures) c.blank-rows.ensures;
+  room = room c.args.claimants _ _ _ (sym c.in_ok-trial.ensures);
+}
 
 pub returns : goal.returns
+unfolding trial_left trial_outcome
 returns c =
-    let n = rows_fit c.args.claimants c.rows_for-n.ensures in
-    let es = c.args.schedule.now in
-    let ls = c.args.left.now in
-    let P : Table → Type 0 = λ t.
-    (c.trace.new.left ≡ left_unless (trial_refusal (length t) c.terms_of-terms.result (length es) (length ls)) c.terms_of-terms.result es ls t) ×
-    (c.trace.result ≡ outcome_of (trial_refusal (length t) c.terms_of-terms.result (length es) (length ls))) in
-    let x = subst P (blank_part c.rows_for-n.result c.blank-blank.result c.blank-blank.ensures n) c.trace.ensures in
-    let y = rw (c.rows_for-n.ensures, c.terms_of-terms.ensures) at x in
-    let d = tried c.args.claimants c.args.ceiling es ls in
-    (y.0 ∙ d.0, y.1 ∙ d.1)
+    let e = sym c.in_ok-trial.ensures in
+    (c.trace.ensures ∙ rw (part_is c.args.claimants _ _ _ e c.blank-rows.ensures, e), rw e)

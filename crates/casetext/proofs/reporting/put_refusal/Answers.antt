@@ -1,24 +1,21 @@
 -- `casetext::reporting::put_refusal` meets its contract.
-use Rattle.casetext.specs.Words.{ascii}
-use Rattle.casetext.specs.Layout.{field_text, line_text}
+use Rattle.std.proofs.Common.{◌∙◌, rules, refl}
 use Rattle.casetext.specs.Report.{refusal_text}
-use Rattle.casetext.proofs.Puts.{room_first, room_second, wrote_both}
+use Rattle.casetext.proofs.Pens.{front_at, front_row, room_front, room_first, room_second, wrote_both}
 use Rattle.casetext.proofs.reporting.put_refusal.Goals as goal
 
-pub put_field-next-requires : goal.put_field-next-requires
+pub field-requires : goal.field-requires
 unfolding refusal_text
-put_field-next-requires c =
-    let a = c.args in
-    room_first (field_text (ascii "refused=") a.number) (line_text (ascii " line=") a.line) c.requires.room
+field-requires c = rw c.from.ensures (room_first _ _ (room_front c.new-pen.ensures.row c.new-pen.ensures.at c.requires.room))
 
-pub put_line-requires : goal.put_line-requires
+pub line-requires : goal.line-requires
 unfolding refusal_text
-put_line-requires c =
-    let a = c.args in
-    room_second (field_text (ascii "refused=") a.number) (line_text (ascii " line=") a.line) c.requires.room c.put_field-next.ensures
+line-requires c = room_second _ _ (rw c.from.ensures at c.field.ensures) (room_front c.new-pen.ensures.row c.new-pen.ensures.at c.requires.room)
 
 pub returns : goal.returns
 unfolding refusal_text
 returns c =
-    let a = c.args in
-    wrote_both (field_text (ascii "refused=") a.number) (line_text (ascii " line=") a.line) c.requires.room c.put_field-next.ensures c.put_line.ensures
+    let all = wrote_both (rw c.from.ensures at c.field.ensures) c.line.ensures refl in
+    let row = front_row all c.new-pen.ensures.at in
+    let same = all.row ∙ c.new-pen.ensures.same in
+    record { ends = c.written.ensures ∙ front_at all c.new-pen.ensures.at; row = search rules }

@@ -1,42 +1,36 @@
 -- `casetext::reporting::put_run` meets its contract: each turn of its loop writes the next report.
-use Rattle.std.proofs.Common.{◌≡◌, ◌*◌, length, arith}
-use Rattle.casetext.proofs.Runs.{reports_next, reports_over, reports_room, part_rest}
-use Rattle.casetext.proofs.Puts.{room_second, wrote_both, onward_start, onward_room, onward_more, onward_end}
-use Rattle.casetext.specs.Words.{ascii}
-use Rattle.casetext.specs.Layout.{line_text}
+use Rattle.std.proofs.Common.{◌*◌, ◌∙◌, rules, refl, arith}
 use Rattle.casetext.specs.Report.{entries_text, run_text}
+use Rattle.casetext.proofs.Pens.{front_at, front_row, room_front, room_first, room_second, wrote_both, onward_room, onward_more, onward_end}
+use Rattle.casetext.proofs.Runs.{reports_next, reports_over, part_rest}
 use Rattle.casetext.proofs.reporting.put_run.Goals as goal
 
-pub loop-i-init : goal.loop-i-init
-loop-i-init c = (omega arith, onward_start _ _ _)
-
-pub put_entry-at-requires-clause-room : goal.put_entry-at-requires-clause-room
-put_entry-at-requires-clause-room c =
+pub entry-requires-clause-room : goal.entry-requires-clause-room
+unfolding run_text
+entry-requires-clause-room c =
     let l = c.loop-i in
     let es = c.args.entries.now in
     let ns = c.args.left.now in
-    rw (part_rest ns (5 * l.i)) (onward_room (reports_room es ns c.requires.room) l.invariant.1 _ _ (reports_next es ns l.i (omega arith)))
+    let room = room_first (entries_text 1 es ns) _ (room_front c.new-pen.ensures.row c.new-pen.ensures.at c.requires.room) in
+    rw (part_rest ns (5 * l.i)) (onward_room room l.invariant _ _ (reports_next es ns l.i (omega arith)))
 
 pub loop-i-preserved : goal.loop-i-preserved
+unfolding run_text
 loop-i-preserved c =
     let l = c.loop-i in
     let es = c.args.entries.now in
-    let ns = c.args.left.now in (
-      omega arith,
-      onward_more (reports_room es ns c.requires.room) l.invariant.1 _ _ (reports_next es ns l.i (omega arith))
-          (rw (part_rest ns (5 * l.i)) at c.put_entry-at.ensures),
-    )
+    let ns = c.args.left.now in
+    let room = room_first (entries_text 1 es ns) _ (room_front c.new-pen.ensures.row c.new-pen.ensures.at c.requires.room) in
+    onward_more room l.invariant _ _ (reports_next es ns l.i (omega arith)) (rw (part_rest ns (5 * l.i)) at c.entry.ensures)
 
-pub put_line-requires : goal.put_line-requires
+pub line-requires : goal.line-requires
 unfolding run_text
-put_line-requires c =
+line-requires c =
     let l = c.loop-i in
     let es = c.args.entries.now in
     let ns = c.args.left.now in
-    let e : l.i ≡ length es = omega arith in
-    rw e
-    (room_second (entries_text 1 es ns) (line_text (ascii "end=") (length es)) c.requires.room
-    (onward_end (reports_room es ns c.requires.room) l.invariant.1 (reports_over es ns l.i (omega arith))))
+    let room = room_front c.new-pen.ensures.row c.new-pen.ensures.at c.requires.room in
+    room_second _ _ (onward_end (room_first (entries_text 1 es ns) _ room) l.invariant (reports_over es ns l.i (omega arith))) room
 
 pub returns : goal.returns
 unfolding run_text
@@ -44,7 +38,9 @@ returns c =
     let l = c.loop-i in
     let es = c.args.entries.now in
     let ns = c.args.left.now in
-    let e : l.i ≡ length es = omega arith in
-    wrote_both (entries_text 1 es ns) (line_text (ascii "end=") (length es)) c.requires.room
-    (onward_end (reports_room es ns c.requires.room) l.invariant.1 (reports_over es ns l.i (omega arith)))
-    (rw e at c.put_line.ensures)
+    let room = room_front c.new-pen.ensures.row c.new-pen.ensures.at c.requires.room in
+    let all =
+    wrote_both (onward_end (room_first (entries_text 1 es ns) _ room) l.invariant (reports_over es ns l.i (omega arith))) c.line.ensures refl in
+    let row = front_row all c.new-pen.ensures.at in
+    let same = all.row ∙ c.new-pen.ensures.same in
+    record { ends = c.written.ensures ∙ front_at all c.new-pen.ensures.at; row = search rules }

@@ -1,35 +1,25 @@
 -- `casetext::reporting::put_trial` meets its contract: a trial's answer says which text is printed.
-use Rattle.std.proofs.Common.{◌∙◌, sym, ap}
-use Rattle.casetext.specs.Report.{run_text}
+use Rattle.std.proofs.Common.{ℕ, arith}
+use Rattle.std.proofs.lemmas.List.{length-replicate}
 use Rattle.casetext.proofs.Reports.{done_text, refused_text}
 use Rattle.casetext.proofs.reporting.put_trial.Goals as goal
 
 pub put_run-requires-clause-room : goal.put_run-requires-clause-room
-put_run-requires-clause-room c =
-    let a = c.args in
-    let t = c.trial-outcome.ensures in
-    let es = a.entries.now in
-    let e = done_text a.claimants a.ceiling es a.left.now c.requires.five_each (sym t.1 ∙ c.in-Done.is) ∙ ap (run_text es) (sym t.0) in
-    rw e at c.requires.room
+put_run-requires-clause-room g c =
+    let same = c.as_slice-entries.ensures.value in
+    rw same (rw (done_text _ _ _ _ (omega (arith, length-replicate {A = ℕ} g.row.N 0)) (rw same at c.trial.ensures) c.in-Ok.is) at c.requires.room)
 
 pub put_refusal-requires-clause-room : goal.put_refusal-requires-clause-room
-put_refusal-requires-clause-room c =
-    let a = c.args in
-    let t = c.trial-outcome.ensures in
-    let e = refused_text a.claimants a.ceiling a.entries.now a.left.now c.requires.five_each (sym t.1 ∙ c.in-Refused.is) in
-    rw e.0 at c.requires.room
+put_refusal-requires-clause-room g c =
+    let same = c.as_slice-entries.ensures.value in
+    rw c.from.ensures (rw (refused_text _ _ _ _ (omega (arith, length-replicate {A = ℕ} g.row.N 0)) (rw same at c.trial.ensures) c.in-Err.is) at c.requires.room)
 
-pub returns-in-Done : goal.returns-in-Done
-returns-in-Done c =
-    let a = c.args in
-    let t = c.trial-outcome.ensures in
-    let es = a.entries.now in
-    let e = done_text a.claimants a.ceiling es a.left.now c.requires.five_each (sym t.1 ∙ c.in-Done.is) ∙ ap (run_text es) (sym t.0) in
-    rw e c.put_run.ensures
+pub returns-in-Ok : goal.returns-in-Ok
+returns-in-Ok g c =
+    let same = c.as_slice-entries.ensures.value in
+    rw (done_text _ _ _ _ (omega (arith, length-replicate {A = ℕ} g.row.N 0)) (rw same at c.trial.ensures) c.in-Ok.is) (rw same at c.put_run.ensures)
 
-pub returns-in-Refused : goal.returns-in-Refused
-returns-in-Refused c =
-    let a = c.args in
-    let t = c.trial-outcome.ensures in
-    let e = refused_text a.claimants a.ceiling a.entries.now a.left.now c.requires.five_each (sym t.1 ∙ c.in-Refused.is) in
-    rw e.0 c.put_refusal.ensures
+pub returns-in-Err : goal.returns-in-Err
+returns-in-Err g c =
+    let same = c.as_slice-entries.ensures.value in
+    rw (refused_text _ _ _ _ (omega (arith, length-replicate {A = ℕ} g.row.N 0)) (rw same at c.trial.ensures) c.in-Err.is) (rw c.from.ensures at c.put_refusal.ensures)

@@ -1,7 +1,9 @@
 -- `casetext::sizes::digits` meets its contract.
 use Rattle.std.proofs.Common.{arith}
-use Rattle.casetext.proofs.Measures.{size_five}
+use Rattle.casetext.proofs.Measures.{size_by_log}
 use Rattle.casetext.proofs.sizes.digits.Goals as goal
 
 pub returns-clause-value : goal.returns-clause-value
-returns-clause-value c = omega (arith, size_five c.args.n (omega arith))
+returns-clause-value c =
+    let log = c.ilog10.ensures in
+    size_by_log c.ilog10.result c.args.n (omega (arith, log.power_le)) (omega (arith, log.next_power_gt))

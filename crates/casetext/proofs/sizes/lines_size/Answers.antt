@@ -6,21 +6,23 @@ use Rattle.casetext.specs.Layout.{turn_text}
 use Rattle.casetext.proofs.Finding.{true_not_false}
 use Rattle.casetext.proofs.Schedules.{no_nine, adding_more, adding_end}
 use Rattle.casetext.proofs.sizes.lines_size.Goals as goal
+use Rattle.casetext.proofs.sizes.lines_size.Goals.{in-Ok, in_default}
 
-pub returns-in_default-clause-value : goal.returns-in_default-clause-value
-returns-in_default-clause-value c =
-    let l = c.loop-i in
+pub loop-entry-preserved : goal.loop-entry-preserved
+loop-entry-preserved c =
+    let i = c.loop-entry.entry-index in
     let es = c.args.schedule.now in
-    let t = entry_barred (get_or es l.i 0) _ _ (sym c.in_default.ensures) in
-    true_not_false (sym t ∙ no_nine es c.requires.none_barred l.i (omega arith))
-
-pub loop-i-preserved : goal.loop-i-preserved
-loop-i-preserved c =
-    let l = c.loop-i in
-    let t = entry_made (get_or c.args.schedule.now l.i 0) _ (sym c.in-Made.ensures) in
-    adding_more l.invariant (omega arith)
-    (c.turn_size.ensures.value ∙ ap (λ (x : Call). length (turn_text x)) (sym t.1))
-    c.turn_size.ensures.upper_bound
+    elim c.match-decoded.branch [
+      | in-Ok w ↦
+          let t = entry_made (get_or es i 0) _ (sym w.in-Ok.ensures) in
+          rw w.bytes-is
+          (adding_more c.loop-entry.invariant (omega arith)
+          (w.turn_size.ensures.value ∙ ap (λ (x : Call). length (turn_text x)) (sym t.1))
+          w.turn_size.ensures.upper_bound)
+      | in_default w ↦
+          let t = entry_barred (get_or es i 0) _ (sym w.in_default.ensures) in
+          true_not_false (sym t ∙ no_nine es c.requires.none_barred i (omega arith))
+    ]
 
 pub returns-clause-value : goal.returns-clause-value
-returns-clause-value c = adding_end c.loop-i.invariant (omega arith)
+returns-clause-value c = adding_end c.loop-entry.invariant (omega arith)

@@ -1,0 +1,24 @@
+-- What was printed lies within the row, and is what is printed of all that the reader had.
+use Rattle.std.proofs.Common.{◌∙◌, sym, length-take-le, arith, subst}
+use Rattle.std.specs.Io.KnownBytes.{Appends}
+use Rattle.casetext.proofs.Reports.{printed_within}
+use Rattle.boardcase.proofs.Reports.{printed_read, report_row_start, never_short}
+use Rattle.boardcase.proofs.answer.Goals as goal
+
+pub slice_bounds-out-end : goal.slice_bounds-out-end
+slice_bounds-out-end g c = rw c.report.auto.out (printed_within _ _ _ (sym c.report.ensures.0 ∙ c.in-Some.is))
+
+pub slice_bounds-write_all-end : goal.slice_bounds-write_all-end
+slice_bounds-write_all-end g c =
+    sym (length-take-le _ c.report.new.out (rw c.report.auto.out (printed_within _ _ _ (sym c.report.ensures.0 ∙ c.in-Some.is))))
+
+pub returns-in_ok-write_all : goal.returns-in_ok-write_all
+returns-in_ok-write_all g c =
+    let written = Appends (g.W.Write.contents c.args.output.now) (g.W.Write.contents c.write_all.new.self) in
+    let read = c.in_ok-length.ensures in
+    let report = report_row_start _ _ (omega arith) (sym c.report.ensures.0 ∙ c.in-Some.is) c.report.ensures.1 in
+    printed_read written _ _ c.read_full.new.row _ (omega arith) read.within read.taken read.ended
+    (subst written report c.in_ok-write_all.ensures.bytes)
+
+pub returns-in_default : goal.returns-in_default
+returns-in_default g c = absurd (never_short _ _ (omega arith) (sym c.report.ensures.0 ∙ c.in_default.is))
