@@ -8,7 +8,8 @@ ghost use Rattle.casetext.specs.Report.{printed};
 use std::io;
 use std::io::{Read, Write};
 
-// Reads until the row is full or the input ends, and gives how many bytes it put at the row's start.
+// Reads until the row is full or the input ends, and gives how many bytes it put at the row's start. By hand: `read_exact` refuses an
+// input that ends, and what this promises of an input's end, and the edit that tries it, stand in this loop.
 #[tactic(auto, using(crate::proofs::Filling::consumes_more))]
 fn read_full<R: Read>(input: &mut R, row: &mut [u8]) -> io::Result<usize>
     ensures within { IfOk result (λ n. n ≤ length row.new) }
@@ -27,7 +28,8 @@ fn read_full<R: Read>(input: &mut R, row: &mut [u8]) -> io::Result<usize>
 }
 
 // Reads a case text and writes what came of it. Where the reader's bytes and the writer's are known, the writer has then what is
-// printed of all that the reader had. The row has a byte more than a text may have, so that one that is too long is seen to be.
+// printed of all that the reader had. The row has a byte more than a text may have, so that one that is too long is seen to be. Both
+// are rows, since `report` is lent rows, as from C.
 fn answer<R: Read, W: Write>(input: &mut R, output: &mut W) -> io::Result<()>
     ensures { OnOk result (IfSome (R.remaining input.old)
         (λ text. Appends (W.contents output.old) (W.contents output.new) (printed text))) }

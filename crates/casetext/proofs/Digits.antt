@@ -14,7 +14,7 @@ use Rattle.std.specs.Prelude.{None, Some}
 use Rattle.std.specs.Char.{is_ascii_digit}
 use Rattle.casetext.specs.Pieces.{past, digits_from, number_at, field_at}
 use Rattle.casetext.specs.declared.cursor.Found.{Found}
-use Rattle.casetext.proofs.Finding.{not_found, found_of}
+use Rattle.casetext.proofs.Finding.{found_of}
 
 pub is_digit_lem : (b : ℕ) → 48 ≤ b → b ≤ 57 → is_ascii_digit b ≡ true
 is_digit_lem b l h = rw (le-leb 48 b l, le-leb b 57 h)
@@ -31,7 +31,7 @@ digits_most most v at (b ∷ bs) {f} h e =
     decide (is_ascii_digit b)
     (λ d. decide (leb (v * 10 + (b - 48)) most)
     (λ m. digits_most most (v * 10 + (b - 48)) (suc at) bs (leb-true _ _ m) (rw (d, m) at e))
-    (λ m. not_found (rw (d, m) at e)))
+    (λ m. cc (rw (d, m) at e)))
     (λ d. let g = rw d at e in let z : v ≡ f.value = cc in omega arith)
 
 pub number_most : (most : ℕ) (s : List ℕ) (at : ℕ) {f : Found} → number_at most s at ≡ Some f → f.value ≤ most
@@ -41,7 +41,7 @@ number_most most s at {f} e =
     (λ z. let g = rw z at e in let z : 0 ≡ f.value = cc in omega arith)
     (λ z. decide (is_ascii_digit (get_or s at 0))
     (λ d. digits_most most 0 at (drop at s) (omega arith) (rw (z, d) at e))
-    (λ d. not_found (rw (z, d) at e)))
+    (λ d. cc (rw (z, d) at e)))
 
 pub field_most : (w : List ℕ) (most : ℕ) (s : List ℕ) (at : ℕ) {f : Found} → field_at w most s at ≡ Some f → f.value ≤ most
 unfolding field_at

@@ -2,17 +2,9 @@
 -- Assumes nothing.
 use Prim.Native.Nat.{ℕ}
 use mathlib.Core.Path.{◌≡◌, refl, ap}
-use mathlib.Core.Bool.{true, false}
 use Rattle.std.specs.Prelude.{Option, None, Some}
 use Rattle.casetext.specs.Pieces.{found, and_then}
 use Rattle.casetext.specs.declared.cursor.Found.{Found}
-
--- What is not there was not found, and what is true is not false.
-pub not_found {ℓ} : {A : Type ℓ} {B : Type 0} {x : B} → None ≡ Some x → A
-not_found e = absurd cc
-
-pub true_not_false {ℓ} : {A : Type ℓ} → true ≡ false → A
-true_not_false e = absurd cc
 
 pub none_found : {A : Type 0} (o : Option A) → ((x : A) → o ≡ Some x → ⊥) → o ≡ None
 none_found None h = refl
@@ -20,7 +12,7 @@ none_found (Some x) h = absurd (h x refl)
 
 -- What comes of a thing found was found of it.
 pub found_of : {A B : Type 0} (o : Option A) {f : A → Option B} {y : B} → and_then o f ≡ Some y → (x : A) × (o ≡ Some x) × (f x ≡ Some y)
-found_of None e = not_found e
+found_of None e = cc
 found_of (Some x) e = (x, refl, e)
 
 -- What was found twice was found once.

@@ -15,5 +15,8 @@ use Rattle.casetext.specs.Report.{entry_text, entries_text, refusal_text, run_te
 use Rattle.casetext.specs.Promises.{listed_case, listing, AsListed}
 
 pub as_listed : AsListed
-unfolding listed_case listing first places place_at rows fits well_formed conflict before read_at reads passed stepped refusals unless asked step_taken left opened record_of value_read all_well_formed caller turn unless_refused table_refusal called decoded entered traced numeral numeral_within past digits_from number_at field_at ended_at line_at called_at asked_by ask_at turn_at do_line_at before_said onward do_lines reading entry_text entries_text refusal_text run_text opened_text said_text printed
+unfolding listed_case listing first places place_at rows fits well_formed conflict before read_at reads passed stepped refusals unless asked
+    step_taken left opened record_of value_read all_well_formed caller turn unless_refused table_refusal called decoded entered traced
+    numeral numeral_within past digits_from number_at field_at ended_at line_at called_at asked_by ask_at turn_at do_line_at
+    before_said onward do_lines reading entry_text entries_text refusal_text run_text opened_text said_text printed
 as_listed = refl

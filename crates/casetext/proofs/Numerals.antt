@@ -18,7 +18,6 @@ use Rattle.std.specs.Char.{is_ascii_digit}
 use Rattle.casetext.specs.Pieces.{found, digits_from, number_at}
 use Rattle.casetext.specs.declared.cursor.Found.{Found}
 use borrow.Table.Steps.{cases as decide}
-use Rattle.casetext.proofs.Finding.{true_not_false, not_found}
 use Rattle.casetext.proofs.Words.{byte_inside}
 use Rattle.casetext.proofs.Digits.{is_digit_lem}
 use Rattle.casetext.proofs.Stands.{Stands, stands_as, first_byte, byte_stands}
@@ -132,8 +131,8 @@ module _ (most : ℕ) {s : List ℕ} {at next : ℕ} where
 
 digit_range : (b : ℕ) → is_ascii_digit b ≡ true → (48 ≤ b) × (b ≤ 57)
 digit_range b e =
-    decide (leb 48 b) (λ t. decide (leb b 57) (λ u. (leb-true 48 b t, leb-true b 57 u)) (λ u. true_not_false (sym (rw (t, u) at e))))
-    (λ t. true_not_false (sym (rw t at e)))
+    decide (leb 48 b) (λ t. decide (leb b 57) (λ u. (leb-true 48 b t, leb-true b 57 u)) (λ u. cc (rw (t, u) at e)))
+    (λ t. cc (rw t at e))
 
 -- digits that were read on from a number are the end of the numeral that they come to
 record ReadOn (l : List ℕ) (v at n next : ℕ) : Type 0 where
@@ -161,7 +160,7 @@ read_on most (b ∷ l) v at {f} o e =
       whole = r.whole ∙ rw (numeral_digit v b o g.0 g.1) (append_assoc (numeral v) (b ∷ []) r.digits);
       ends = omega (arith, r.ends);
     })
-    (λ m. not_found (rw (d, m) at e)))
+    (λ m. cc (rw (d, m) at e)))
     (λ d.
     let g : found v at ≡ Some f = rw d at e in
     let p : v ≡ f.value = cc in
@@ -180,7 +179,7 @@ first_read most at b l {f} lo hi e =
     read_on most l (0 * 10 + (b - 48)) (suc at) {f = f} (omega arith) (rw (d, m) at e) in
     let v : 48 + (0 * 10 + (b - 48)) ≡ b = omega arith in
     (r.digits, r.text, r.whole ∙ rw (numeral_one (0 * 10 + (b - 48)) (omega arith), v), omega (arith, r.ends)))
-    (λ m. not_found (rw (d, m) at e))
+    (λ m. cc (rw (d, m) at e))
 
 -- a number that was found stands there
 pub number_stands : (most : ℕ) (s : List ℕ) (at : ℕ) {f : Found} → number_at most s at ≡ Some f → Stands s at f.next (numeral f.value)
@@ -193,7 +192,7 @@ number_stands most s at {f} e =
     let q : at + 1 ≡ f.next = cc in
     rw (← p, ← q, numeral_one 0 (omega arith)) (byte_stands s at 48 (omega arith) (eqb-true _ _ t)))
     (λ t. decide (is_ascii_digit (get_or s at 0)) (λ d. from_digit (eqb-false _ _ t) (digit_range _ d) (rw (t, d) at e))
-    (λ d. not_found (rw (t, d) at e)))
+    (λ d. cc (rw (t, d) at e)))
   where
     b : ℕ
     b = get_or s at 0

@@ -1,25 +1,12 @@
 -- Texts written one after the other make up one text.
 -- Assumes nothing.
 use Rattle.std.proofs.Common.{◌≡◌, ℕ, ◌+◌, ◌≤◌, List, [], ◌++◌, length, take, drop, refl, sym, ap, ◌∙◌, arith}
-use Rattle.std.proofs.Common.{append-nil, append_assoc, length-append, length-drop, take-append-drop}
+use Rattle.std.proofs.Common.{append-nil, append_assoc, length-append, take-append-drop}
 use Rattle.std.proofs.lemmas.List.{drop-drop, length-take-le}
 use lib.Seq.{take_at, drop_at}
 use Rattle.casetext.specs.declared.writing.Pen.{Pen}
-use Rattle.casetext.specs.Writing.{done, left, Room, Wrote}
-
--- Of two texts, there is room for the first, and for the second once the first is written.
-pub room_first : {p : Pen} (w v : List ℕ) → Room p (w ++ v) → Room p w
-room_first w v r = record { fits = omega (arith, r.fits, length-append w v) }
-
-pub room_second : {p q : Pen} (w v : List ℕ) → Wrote p w q → Room p (w ++ v) → Room q v
-room_second {p} w v a r = record { fits = omega (arith, r.fits, length-append w v, ap length a.left, length-drop (length w) (left p)) }
-
-pub wrote_both : {p q r : Pen} {w v text : List ℕ} → Wrote p w q → Wrote q v r → text ≡ w ++ v → Wrote p text r
-wrote_both {p} {w = w} {v} a b e = record {
-  row = b.row ∙ a.row;
-  done = b.done ∙ rw (a.done, e) (append_assoc (done p) w v);
-  left = b.left ∙ rw (a.left, drop-drop (length v) (length w) (left p), e, length-append) refl;
-}
+use Rattle.casetext.specs.Writing.{done, Room, Wrote}
+use Rattle.casetext.specs.Sinks.{SinkLaws}
 
 -- A text that was written up to its end.
 module _ (row new text : List ℕ) (at end : ℕ) (within : at ≤ length row) (ends : end ≡ at + length text)
@@ -38,34 +25,31 @@ module _ (row new text : List ℕ) (at end : ℕ) (within : at ≤ length row) (
     left_from_end =
         ap (drop end) parted ∙ drop_at (take at row ++ text) (drop end row) end front ∙ rw ends (sym (drop-drop (length text) at row))
 
--- A text that is written piece by piece: what was written, and then what is still to come, make up the whole.
-pub record Onward (p : Pen) (whole rest : List ℕ) (q : Pen) : Type 0 where
+-- A text that is taken piece by piece: what was taken, and then what is still to come, make up the whole.
+pub record Onward {S : Type 0} (took : S → List ℕ → S → Type 0) (p : S) (whole rest : List ℕ) (q : S) : Type 0 where
   pub before : List ℕ
-  pub wrote : Wrote p before q
+  pub taken : took p before q
   pub splits : whole ≡ before ++ rest
 
-pub onward_start : (p : Pen) (whole : List ℕ) → Onward p whole whole p
-onward_start p whole = record {
-  before = [];
-  wrote = record { row = refl; done = sym (append-nil (done p)); left = refl };
-  splits = refl;
-}
+module _ {S : Type 0} {room : S → List ℕ → Type 0} {took : S → List ℕ → S → Type 0} (laws : SinkLaws room took) where
+  pub onward_start : (p : S) (whole : List ℕ) → Onward took p whole whole p
+  onward_start p whole = record { before = []; taken = laws.none p; splits = refl }
 
-module _ {p q : Pen} {whole rest : List ℕ} (room : Room p whole) (o : Onward p whole rest q) where
-  -- what comes next has room, and once it is written there is less to come
-  module _ (next later : List ℕ) (e : rest ≡ next ++ later) where
-    pub onward_room : Room q next
-    onward_room = room_first next later (room_second o.before (next ++ later) o.wrote (rw (← e, ← o.splits) room))
+  module _ {p q : S} {whole rest : List ℕ} (has : room p whole) (o : Onward took p whole rest q) where
+    -- what comes next has room, and once it is taken there is less to come
+    module _ (next later : List ℕ) (e : rest ≡ next ++ later) where
+      pub onward_room : room q next
+      onward_room = laws.first next later (laws.second o.before (next ++ later) o.taken (rw (← e, ← o.splits) has))
 
-    pub onward_more : {r : Pen} → Wrote q next r → Onward p whole later r
-    onward_more w = record {
-      before = o.before ++ next;
-      wrote = wrote_both o.wrote w refl;
-      splits = o.splits ∙ rw e (sym (append_assoc o.before next later));
-    }
+      pub onward_more : {r : S} → took q next r → Onward took p whole later r
+      onward_more w = record {
+        before = o.before ++ next;
+        taken = laws.both o.taken w refl;
+        splits = o.splits ∙ rw e (sym (append_assoc o.before next later));
+      }
 
-  pub onward_end : rest ≡ [] → Wrote p whole q
-  onward_end e = let d : whole ≡ o.before = o.splits ∙ rw e (append-nil o.before) in rw d o.wrote
+    pub onward_end : rest ≡ [] → took p whole q
+    onward_end e = let d : whole ≡ o.before = o.splits ∙ rw e (append-nil o.before) in rw d o.taken
 
 -- A text that was written from a row's beginning.
 pub room_front : {p : Pen} {held text : List ℕ} → p.row.now ≡ held → p.at ≡ 0 → length text ≤ length held → Room p text

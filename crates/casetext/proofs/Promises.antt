@@ -28,16 +28,12 @@ use Rattle.rules.specs.declared.Refusal.{Refusal}
 use Rattle.rules.specs.declared.Refusal.TheVariants.{TooLong, BadLine, TooManyLines}
 use Rattle.casetext.specs.Pieces.{found}
 use Rattle.casetext.proofs.Numbered.{same_refusal}
-use Rattle.casetext.proofs.Finding.{not_found, none_found, same_found}
+use Rattle.casetext.proofs.Finding.{none_found, same_found}
 use Rattle.casetext.proofs.Gathering.{lines_end, lines_broken, lines_full}
 use Rattle.casetext.proofs.Stands.{Stands, stands_at, rest_at}
 use Rattle.casetext.proofs.Turns.{line_found, line_stands, do_found, do_stands}
 use Rattle.casetext.proofs.Texts.{inside, calls_read, Run, run}
 use Rattle.casetext.proofs.Texts.Run.{whole, bad, many as too_many}
-
--- A reading is of one kind only.
-pub not_refused {ℓ} : {A : Type ℓ} {n k line : ℕ} {r : Refusal} {es : List ℕ} → accepted n k es ≡ refused r line → A
-not_refused e = absurd cc
 
 -- Where no line fits, none is found.
 no_line : (w : List ℕ) (s : List ℕ) (at : ℕ) → NoNumberLine w (drop at s) → line_at w 4294967295 s at ≡ None
@@ -179,7 +175,7 @@ module _ (s : List ℕ) (l : length s ≤ 32768) where
       fault BadLine 2 refl
       (broken refl l
       (line_2 n (drop at s) refl hn p.text
-      (λ k after h z. not_found (sym e ∙ line_found (ascii "ceiling=") h (stands_at s at (line_text (ascii "ceiling=") k) after z)))))
+      (λ k after h z. cc (line_found (ascii "ceiling=") h (stands_at s at (line_text (ascii "ceiling=") k) after z)))))
   from_2 n at hn p (Some f) e =
       let r = line_stands (ascii "ceiling=") 4294967295 s at {f = f} e in
       let a = line_text (ascii "claimants=") n in
@@ -193,7 +189,7 @@ module _ (s : List ℕ) (l : length s ≤ 32768) where
       fault BadLine 1 refl
       (broken refl l
       (line_1 refl
-      (λ n after h z. not_found (sym e ∙ line_found (ascii "claimants=") h (stands_at s 0 (line_text (ascii "claimants=") n) after z)))))
+      (λ n after h z. cc (line_found (ascii "claimants=") h (stands_at s 0 (line_text (ascii "claimants=") n) after z)))))
   from_1 (Some f) e =
       let r = line_stands (ascii "claimants=") 4294967295 s 0 {f = f} e in
       from_2 f.value f.next r.0 r.1 (line_at (ascii "ceiling=") 4294967295 s f.next) refl
@@ -214,7 +210,7 @@ accepted_exactly s n k es = (λ e. go e (verdict s), case_read s n k es)
         let b : k' ≡ k = cc in
         let d : es' ≡ es = cc in
         rw (a, b, d) at c
-    go e (fault why line q c) = not_refused (sym e ∙ q)
+    go e (fault why line q c) = cc
 
 pub refused_exactly : RefusedExactly
 refused_exactly s r line = (
@@ -223,7 +219,7 @@ refused_exactly s r line = (
 )
   where
     go : reading s ≡ refused r line → Verdict s (reading s) → Cause s (refusal_number r) line
-    go e (good n k es q c) = not_refused (sym q ∙ e)
+    go e (good n k es q c) = cc
     go e (fault why at q c) =
         let a : why ≡ r = cc in
         let b : at ≡ line = cc in
@@ -251,8 +247,8 @@ one_call (Leave w) (Leave v) h g e = let a : w ≡ v = omega arith in rw a
 one_schedule : (ts us : List Call) → AllInRange ts → AllInRange us → map entry_of ts ≡ map entry_of us → ts ≡ us
 unfolding AllInRange
 one_schedule [] [] h g e = refl
-one_schedule [] (u ∷ us) h g e = absurd cc
-one_schedule (t ∷ ts) [] h g e = absurd cc
+one_schedule [] (u ∷ us) h g e = cc
+one_schedule (t ∷ ts) [] h g e = cc
 one_schedule (t ∷ ts) (u ∷ us) h g e =
     let a : entry_of t ≡ entry_of u = cc in
     let b : map entry_of ts ≡ map entry_of us = cc in

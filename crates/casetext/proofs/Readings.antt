@@ -15,7 +15,7 @@ use Rattle.casetext.specs.Answers.{reading_number, reading_line}
 use Rattle.casetext.specs.Promises.{IsCase, Cause, ReaderCause, ReaderRefuses, RefusedReading, AcceptedReading, ReadWithin}
 use Rattle.casetext.specs.Promises.ReaderCause.{short, of_text}
 use Rattle.std.specs.Prelude.{Ok}
-use Rattle.casetext.proofs.Promises.{not_refused, case_few, cause_read, accepted_exactly, refused_exactly}
+use Rattle.casetext.proofs.Promises.{case_few, cause_read, accepted_exactly, refused_exactly}
 
 -- What a cause says where the row is too short, and where it is not.
 row_short : {row s : List ℕ} {number line : ℕ} → length row < 2048 → ReaderCause row s number line → (number ≡ 10) × (line ≡ 0)
@@ -64,7 +64,7 @@ pub read_case : (row s : List ℕ) (n k : ℕ) (es : List ℕ) → read_into row
 unfolding read_into
 read_case row s n k es e =
     decide (ltb (length row) 2048)
-    (λ t. not_refused (sym (rw t at e)))
+    (λ t. cc (rw t at e))
     (λ t. (accepted_exactly s n k es).0 (rw t at e))
 
 pub read_within : ReadWithin
@@ -74,4 +74,4 @@ read_within row s c e = go (read_into row s) refl e
     go (accepted a b es) q t =
         let z : length es ≡ c.count = cc in
         omega (arith, case_few (read_case row s a b es q))
-    go (refused r line) q t = absurd cc
+    go (refused r line) q t = cc

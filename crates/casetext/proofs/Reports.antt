@@ -5,10 +5,11 @@ use native.Mathlib.Omega.{arith}
 use mathlib.Core.Path.{◌≡◌, refl, sym, ap, ◌∙◌}
 use mathlib.Core.List.{List, [], ◌∷◌, ◌++◌}
 use lib.Dec.{ltb}
-use lib.ListN.{length, drop}
+use lib.ListN.{length, take, drop, replicate, length-replicate}
 use borrow.Author.Tests.{le-ltb, ltb-false}
 use borrow.Table.Steps.{cases as decide}
 use Rattle.std.specs.Prelude.{None, Some, Ok, Err}
+use Rattle.std.proofs.lemmas.List.{length-take-le}
 use Rattle.rules.specs.Tests.{Verdict, first}
 use Rattle.rules.specs.Answers.{refusal_number}
 use Rattle.rules.specs.Rules.{open_refusals}
@@ -34,32 +35,34 @@ unfolding entries_text traced entry_text
 entries_of k [] t rest number = refl
 entries_of k (e ∷ es) t rest number = rw (entries_of k es (entered k (decoded e) t).table rest (number + 1))
 
--- What a trial tells, in a row with five places for each entry.
-module _ (n k : ℕ) (es held : List ℕ) (room : 5 * length es ≤ length held) where
+-- What a trial of these entries tells, in a row of zeros with five places for each.
+module _ (n k N : ℕ) {es items : List ℕ} (same : es ≡ items) (room : 5 * length items ≤ N) where
   -- such a row is not refused for its length
-  same_refusal : trial_outcome n k es held ≡ first (open_refusals n (terms_of k))
+  same_refusal : trial_outcome n k es (replicate N 0) ≡ first (open_refusals n (terms_of k))
   unfolding trial_outcome trial_refusal first
-  same_refusal = rw (le-ltb (length held) (5 * length es) room)
+  same_refusal = rw (same, length-replicate {A = ℕ} N 0, le-ltb N (5 * length items) room)
 
-  module _ {left : List ℕ} {outcome : Verdict} (told : (left ≡ trial_left n k es held) × (outcome ≡ trial_outcome n k es held)) where
-    pub done_text : outcome ≡ Ok tt → said_text (accepted n k es) ≡ run_text es left
-    unfolding trial_outcome trial_left said_text opened_text run_text
-    done_text e =
-        let f : first (open_refusals n (terms_of k)) ≡ Ok tt = sym same_refusal ∙ sym told.1 ∙ e in
-        rw (told.0, same_refusal, f, entries_of (terms_of k) es (opened n) (drop (5 * length es) held) 1)
+  module _ {left : List ℕ} {outcome : Verdict}
+      (told : (left ≡ trial_left n k es (replicate N 0)) × (outcome ≡ trial_outcome n k es (replicate N 0)))
+    where
+      pub done_text : outcome ≡ Ok tt → said_text (accepted n k items) ≡ run_text es left
+      unfolding trial_outcome trial_left said_text opened_text run_text
+      done_text e =
+          let f : first (open_refusals n (terms_of k)) ≡ Ok tt = sym same_refusal ∙ sym told.1 ∙ e in
+          rw (told.0, same_refusal, f, ← same, entries_of (terms_of k) es (opened n) (drop (5 * length es) (replicate N 0)) 1)
 
-    pub refused_text : {r : Refusal} → outcome ≡ Err r → said_text (accepted n k es) ≡ refusal_text (refusal_number r) (refusal_number r)
-    unfolding said_text opened_text
-    refused_text e = rw (sym same_refusal ∙ sym told.1 ∙ e)
+      pub refused_text : {r : Refusal} → outcome ≡ Err r → said_text (accepted n k items) ≡ refusal_text (refusal_number r) (refusal_number r)
+      unfolding said_text opened_text
+      refused_text e = rw (sym same_refusal ∙ sym told.1 ∙ e)
 
 -- What the reader told is what is printed.
 told_refused : (r : Said) {f : Fault} → told r ≡ Err f → r ≡ refused f.refusal f.line
-told_refused (accepted n k es) e = absurd cc
+told_refused (accepted n k es) e = cc
 told_refused (refused q line) {f} e = let g : record { refusal = q; line = line } ≡ f = cc in rw (← g) refl
 
 told_case : (r : Said) {c : Case} {draft : List ℕ} → told r ≡ Ok c → Drafted r draft → r ≡ accepted c.claimants c.ceiling draft
 told_case (accepted n k es) {c} e d = let g : record { claimants = n; ceiling = k; count = length es } ≡ c = cc in rw (← g, d) refl
-told_case (refused q line) e d = absurd cc
+told_case (refused q line) e d = cc
 
 module _ (s : List ℕ) where
   pub printed_refused : {f : Fault} → told (reading s) ≡ Err f → (printed s ≡ refusal_text (refusal_number f.refusal) f.line) × (f.line ≤ 2051)
@@ -88,8 +91,15 @@ pub printed_within : PrintedWithin
 unfolding reported
 printed_within out s bytes e =
     decide (ltb (length out) 153609)
-    (λ t. let f : None ≡ Some bytes = rw t at e in absurd cc)
+    (λ t. let f : None ≡ Some bytes = rw t at e in cc)
     (λ t.
     let f : Some (length (printed s)) ≡ Some bytes = rw t at e in
     let q : length (printed s) ≡ bytes = cc in
     omega (arith, report_fits s, ltb-false (length out) 153609 t))
+
+-- The same where the row is another one as long: the first bytes of that are as many as were printed.
+pub printed_inside : (row s after : List ℕ) (bytes : ℕ) → reported row s ≡ Some bytes → length after ≡ length row → bytes ≤ length after
+printed_inside row s after bytes e l = omega (arith, l, printed_within row s bytes e)
+
+pub printed_part : (row s after : List ℕ) (bytes : ℕ) → reported row s ≡ Some bytes → length after ≡ length row → bytes ≡ length (take bytes after)
+printed_part row s after bytes e l = sym (length-take-le bytes after (printed_inside row s after bytes e l))

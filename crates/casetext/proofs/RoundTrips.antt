@@ -24,7 +24,6 @@ use Rattle.std.specs.Prelude.{Ok, Err}
 use Rattle.rules.specs.Answers.{refusal_number}
 use Rattle.rules.specs.declared.Refusal.{Refusal}
 use Rattle.rules.specs.declared.Refusal.TheVariants.{NoCall, TooLong, TooManyLines}
-use Rattle.casetext.proofs.Finding.{true_not_false}
 use Rattle.casetext.proofs.Gathering.{room_for_all}
 use Rattle.casetext.proofs.Promises.{accepted_exactly, case_few, made}
 use Rattle.casetext.proofs.Readings.{read_case}
@@ -34,9 +33,9 @@ use Rattle.casetext.proofs.Refusals.{refused_as, written_as, refuses_9, refuses_
 -- What an entry's fields hold if refusal 9 does not name it.
 fields : (e : ℕ) → is_nine e ≡ false → (kind_in e ≤ 2) × (eqb (kind_in e) 1 ≡ false → session_in e ≡ 0)
 fields e h =
-    decide (ltb 2 (kind_in e)) (λ t. true_not_false (rw t at h))
+    decide (ltb 2 (kind_in e)) (λ t. cc (rw t at h))
     (λ t.
-    (ltb-false 2 (kind_in e) t, λ o. decide (eqb (session_in e) 0) (λ z. eqb-true _ _ z) (λ z. true_not_false (rw (t, o, z) at h))))
+    (ltb-false 2 (kind_in e) t, λ o. decide (eqb (session_in e) 0) (λ z. eqb-true _ _ z) (λ z. cc (rw (t, o, z) at h))))
 
 -- Such an entry is that of its call, which is in range ..
 entry_back : (e : ℕ) → is_nine e ≡ false → InRange (call_of e) × (entry_of (call_of e) ≡ e)
@@ -60,7 +59,7 @@ schedule_back : (es : List ℕ) → some_nine es ≡ false → AllInRange (map c
 unfolding AllInRange
 schedule_back [] h = (tt, refl)
 schedule_back (e ∷ es) h =
-    decide (is_nine e) (λ t. true_not_false (rw t at h))
+    decide (is_nine e) (λ t. cc (rw t at h))
     (λ t.
     let a = entry_back e t in
     let b = schedule_back es (rw t at h) in
@@ -76,10 +75,10 @@ calls_back (t ∷ ts) h =
     (rw (a.0, b.0), rw (a.1, b.1))
 
 nine_some : (es : List ℕ) → SomeNine es → some_nine es ≡ true
-nine_some es h = decide (some_nine es) (λ t. t) (λ t. true_not_false (sym h.2 ∙ no_nine es t h.0 h.1))
+nine_some es h = decide (some_nine es) (λ t. t) (λ t. cc (h.2, no_nine es t h.0 h.1))
 
 nine_none : (es : List ℕ) → NoNine es → some_nine es ≡ false
-nine_none es h = decide (some_nine es) (λ t. let r = some_nine_lem es t in true_not_false (sym r.2 ∙ h r.0 r.1)) (λ t. t)
+nine_none es h = decide (some_nine es) (λ t. let r = some_nine_lem es t in cc (r.2, h r.0 r.1)) (λ t. t)
 
 -- What a writing comes to, and why.
 record Whole (n k : ℕ) (es lent : List ℕ) : Type 0 where

@@ -1,13 +1,13 @@
 -- The do lines' reports, written one by one.
 -- Assumes nothing.
-use Prim.Native.Nat.{ℕ, ◌+◌, ◌-◌, ◌*◌, ◌≤◌, ◌<◌}
+use Rattle.std.proofs.lemmas.List.{drop_more}
+use Prim.Native.Nat.{ℕ, ◌+◌, ◌*◌, ◌≤◌, ◌<◌}
 use native.Mathlib.Omega.{arith}
 use mathlib.Core.Path.{◌≡◌}
 use mathlib.Core.List.{List, [], ◌++◌}
-use lib.ListN.{length, get_or, take, drop, length-drop, drop_of_length-le}
-use lib.Seq.{drop-drop, take_all}
+use lib.ListN.{length, get_or, drop, drop_of_length-le}
+use lib.Seq.{drop-drop}
 use Rattle.casetext.specs.Report.{entry_text, entries_text}
-use Rattle.casetext.proofs.Schedules.{entry_first}
 
 -- The reports from an entry on, of which each leaves five numbers.
 abbrev pub reports : (entries left : List ℕ) (i : ℕ) → List ℕ
@@ -18,12 +18,8 @@ pub reports_next : (entries left : List ℕ) (i : ℕ) → i < length entries
 unfolding entries_text
 reports_next entries left i h =
     let e : 5 * i + 5 ≡ 5 * (i + 1) = omega arith in
-    rw (entry_first entries i h, drop-drop 5 (5 * i) left, e)
+    rw (drop_more entries i 0 h, drop-drop 5 (5 * i) left, e)
 
 pub reports_over : (entries left : List ℕ) (i : ℕ) → length entries ≤ i → reports entries left i ≡ []
 unfolding entries_text
 reports_over entries left i h = rw (drop_of_length-le entries h)
-
--- a part to the end
-pub part_rest : (l : List ℕ) (i : ℕ) → take (length l - i) (drop i l) ≡ drop i l
-part_rest l i = take_all (length l - i) (drop i l) (rw length-drop (omega arith))

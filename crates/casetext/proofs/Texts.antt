@@ -18,7 +18,6 @@ use Rattle.std.specs.Prelude.{Option, None, Some}
 use Rattle.rules.specs.declared.Refusal.TheVariants.{BadLine, TooManyLines}
 use Rattle.casetext.specs.declared.cursor.Found.{Found}
 use borrow.Table.Steps.{cases as decide}
-use Rattle.casetext.proofs.Finding.{not_found}
 use Rattle.casetext.proofs.Gathering.{lines_end, lines_broken, lines_full, lines_more, before_none, before_before}
 use Rattle.casetext.proofs.Stands.{Stands, stands_at, rest_at}
 use Rattle.casetext.proofs.Turns.{do_found, do_stands}
@@ -67,7 +66,7 @@ module _ (n k : ℕ) (s : List ℕ) where
   at_bad places at line h e =
       bad [] (drop at s) tt (omega arith) refl
       (λ z. omega (arith, sym (length-drop at s) ∙ ap length z))
-      (λ t after r z. not_found (sym e ∙ do_found t r (stands_at s at (do_text t) after z)))
+      (λ t after r z. cc (do_found t r (stands_at s at (do_text t) after z)))
       (rw (add-zero line) (lines_broken n k s at line h places e))
 
   -- one turn more in front

@@ -18,7 +18,7 @@ use Rattle.casetext.specs.Layout.{InRange, entry_of, entry, field_text, line_tex
 use Rattle.casetext.specs.Pieces.{found, and_then, begins, past, number_at, field_at}
 use Rattle.casetext.specs.Lines.{ended_at, line_at, called_at, asked_by, ask_at, turn_at, do_line_at}
 use Rattle.casetext.specs.declared.cursor.Found.{Found}
-use Rattle.casetext.proofs.Finding.{not_found, found_of}
+use Rattle.casetext.proofs.Finding.{found_of}
 use Rattle.casetext.proofs.Digits.{number_most, field_most}
 use Rattle.casetext.proofs.Stands.{Stands, stands_both, stands_left, stands_right, word_stands, word_found, first_byte, byte_stands}
 use Rattle.casetext.proofs.Numerals.{NoDigit, number_found, number_stands}
@@ -39,7 +39,7 @@ end_stands s f {g} e =
     let h : found f.value (f.next + 1) ≡ Some g = rw t at e in
     let q : f.next + 1 ≡ g.next = cc in
     (cc, rw (← q) (byte_stands s f.next 10 (omega arith) (eqb-true _ _ t))))
-    (λ t. not_found (rw t at e))
+    (λ t. cc (rw t at e))
 
 -- A line's end and a space are no digits.
 pub end_no_digit : {s : List ℕ} {at next : ℕ} (b : ℕ) (w : List ℕ) → NoDigit (b ∷ []) → Stands s at next (b ∷ w) → NoDigit (drop at s)
@@ -55,7 +55,7 @@ unfolding past
 past_stands w s at {next} e =
     decide (begins w (drop at s))
     (λ b. let q : at + length w ≡ next = cc in rw (← q) (word_stands w s at b))
-    (λ b. not_found (rw b at e))
+    (λ b. cc (rw b at e))
 
 -- A word and a number.
 pub field_found : (w : List ℕ) {most n : ℕ} {s : List ℕ} {at next : ℕ} → n ≤ most → Stands s at next (field_text w n) → NoDigit (drop next s)
@@ -154,7 +154,7 @@ turn_stands s at {f} e =
     (λ w.
     let r = called_stands 2 s (at + 6) {f = f} (rw (v, u, w) at e) in
     record { turn = Leave r.0; ranged = r.1; says = r.2; stands = stands_both (word_stands (ascii "leave ") s at w) r.3 })
-    (λ w. not_found (rw (v, u, w) at e))))
+    (λ w. cc (rw (v, u, w) at e))))
 
 -- A do line.
 pub do_found : (t : Call) {s : List ℕ} {at next : ℕ} → InRange t → Stands s at next (do_text t) → do_line_at s at ≡ found (entry_of t) next

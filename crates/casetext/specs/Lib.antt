@@ -6,6 +6,7 @@ pub mod Lines
 pub mod Reading
 pub mod Answers
 pub mod Writing
+pub mod Sinks
 pub mod Written
 pub mod Report
 pub mod Promises

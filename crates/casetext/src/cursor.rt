@@ -2,6 +2,7 @@
 ghost use Rattle.std.specs.Prelude.{◌≡◌, ◌+◌, length, get_or, drop};
 ghost use Rattle.casetext.specs.Pieces.{past, digits_from, number_at, field_at};
 
+// A place is a number, and not the rest of a text, so that what is found there is said by an equation.
 #[derive(Clone, Copy)]
 pub(crate) struct Cursor<'a> {
     pub text: &'a [u8],
@@ -31,7 +32,7 @@ impl<'a> Cursor<'a> {
         &self.text[self.at.min(self.text.len())..]
     }
 
-    // The byte here. Past the end it is 0, which no line has.
+    // The byte here. Past the end it is 0, which no line has, so that nobody asks whether the text goes on.
     pub(crate) fn byte(self) -> u8
         ensures { result ≡ get_or self.entry.text.now self.entry.at 0 }
     {
@@ -51,24 +52,26 @@ impl<'a> Cursor<'a> {
         }
     }
 
-    // Digits from here on. It stops where the number passes `most`, so no count of digits takes it out of range.
+    // Digits from here on, and the place past them. It gives nothing once the number passes `most`, so no count of digits takes it out of
+    // range. By hand: `parse` takes a sign, and wants the digits cut out first.
     #[tactic(auto, unfolding(crate::specs::Pieces::digits_from))]
     fn digits(self, most: u32) -> Option<Found>
         ensures { result ≡ digits_from most 0 self.entry.at (drop self.entry.at self.entry.text.now) }
     {
+        let digits = self.rest();
         let mut value: u32 = 0;
-        let mut next = self.at;
-        for b in self.rest() {
+        for (i, b) in digits.iter().enumerate() {
             if !b.is_ascii_digit() {
-                break;
+                let next = self.at + i;
+                return Some(Found { value, next });
             }
             let more = value as u64 * 10 + (*b - b'0') as u64;
             if (most as u64) < more {
                 return None;
             }
             value = more as u32;
-            next += 1;
         }
+        let next = self.at + digits.len();
         Some(Found { value, next })
     }
 

@@ -9,6 +9,7 @@ mod cursor;
 mod lines;
 mod reader;
 mod reporting;
+mod sinks;
 mod sizes;
 mod spelling;
 mod writer;
@@ -27,7 +28,7 @@ pub struct Case {
     pub count: usize,
 }
 
-// Why a text is refused, and at which line; 0 where no line is at fault.
+// Why a text is refused, and at which line; 0 where no line is at fault: so 01 prints it, and so the theorems have it.
 #[derive(Clone, Copy, Debug, PartialEq, Eq)]
 pub struct Fault {
     pub refusal: Refusal,

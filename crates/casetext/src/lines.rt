@@ -29,15 +29,14 @@ impl Cursor<'_> {
         self.ended(self.field(word, most)?)
     }
 
-    // The entry of a step or a leave, which has a claimant and no session.
+    // The entry of a step or a leave, which has a claimant and no session. 01 makes one number of the kind and the claimant.
     #[tactic(auto, using(crate::proofs::Digits::in_range), unfolding(crate::specs::Lines::called_at))]
-    fn called(self, kind: u32) -> Option<Found>
-        requires { kind ≤ 2 }
+    fn called(self, kind: u8) -> Option<Found>
         ensures { result ≡ called_at kind self.entry.text.now self.entry.at }
     {
         let who = self.number(255)?;
         Some(Found {
-            value: kind * 16777216 + who.value * 65536,
+            value: kind as u32 * 16777216 + who.value * 65536,
             ..who
         })
     }

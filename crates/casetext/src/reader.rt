@@ -11,7 +11,8 @@ use rules::Refusal;
 // Room for the entries of one case.
 pub(crate) type Draft = ArrayVec<u32, 2048>;
 
-// The do lines from a place on, of a case with these two numbers: their entries go into a draft.
+// The do lines from a place on, of a case with these two numbers: their entries go into a draft. Read at a
+// place, as the definitions do, each byte once, and not cut into lines first. The draft is lent, since 8 KB would be moved as a result.
 #[tactic(auto, using(crate::proofs::Gathering::gathering))]
 fn do_lines(lines: Cursor, claimants: u32, ceiling: u32, draft: &mut Draft) -> Result<Case, Fault>
     requires { draft.old.items ≡ [] }
@@ -59,7 +60,8 @@ pub(crate) fn drafted(text: &[u8], draft: &mut Draft) -> Result<Case, Fault>
 // Reads a case text into a lent row of entries. A refused text leaves the row as it was, so the entries are drafted apart first.
 #[tactic(auto, unfolding(crate::specs::Reading::read_into))]
 pub fn read(text: &[u8], entries: &mut [u32]) -> Result<Case, Fault>
-    ensures { (result ≡ told (read_into entries.old text.now)) × (entries.new ≡ row_after (read_into entries.old text.now) entries.old) }
+    ensures { (result ≡ told (read_into entries.old text.now))
+        × (entries.new ≡ row_after (read_into entries.old text.now) entries.old) }
 {
     if entries.len() < 2048 {
         return Err(Fault::at(Refusal::NoRoom, 0));

@@ -7,17 +7,19 @@ ghost use Rattle.casetext.specs.Report.{entry_text, refusal_text, run_text, said
 
 use crate::Case;
 use crate::reader::{Draft, drafted};
+use crate::sinks::Sink;
 use crate::writing::Pen;
 use rules::Refusal;
 
-impl<'a> Pen<'a> {
-    // A do line's report. `left` has the five numbers that its entry left.
+impl Pen<'_> {
+    // A do line's report. `left` begins with the five numbers that its entry left, as `store::trial` leaves them in one flat row.
     fn entry(&mut self, number: u32, entry: u32, left: &[u32])
         requires five_numbers { 5 ≤ length left.now }
         requires room { Room self.old (entry_text number entry left.now) }
         ensures { Wrote self.old (entry_text number entry left.now) self.new }
     {
         self.field(b"at=", number);
+        // The claimant's part of the entry, as 01 makes it up.
         self.field(b" who=", entry / 65536 % 256);
         self.field(b" place=", left[0]);
         self.field(b" session=", left[1]);
@@ -54,7 +56,7 @@ fn put_refusal(out: &mut [u8], refusal: Refusal, line: usize) -> usize
     pen.written()
 }
 
-// What a case with these entries prints, with room for N numbers that its entries leave.
+// What a case with these entries prints, with room for N numbers that its entries leave: one flat row, as `trial` wants it.
 fn put_trial<const N: usize>(out: &mut [u8], case: Case, entries: &Draft) -> usize
     requires few_numbers { N ≤ 10240 }
     requires five_each { 5 * length entries.now.items ≤ N }
@@ -69,7 +71,8 @@ fn put_trial<const N: usize>(out: &mut [u8], case: Case, entries: &Draft) -> usi
     }
 }
 
-// The same. A short case isn't made to wait for room that only the longest needs.
+// What a case with these entries prints. A short one isn't made to wait for room that only the longest needs: five numbers for each of
+// 12 entries, of 128, or of 2,048.
 fn put_case(out: &mut [u8], case: Case, entries: &Draft) -> usize
     requires { length (said_text (accepted case.claimants case.ceiling entries.now.items)) ≤ length out.old }
     ensures { Filled out.old (said_text (accepted case.claimants case.ceiling entries.now.items)) result out.new }

@@ -1,4 +1,4 @@
-// The words of a case text, which the reader looks for and the writer writes.
+// The words of a case text, which the reader looks for and the writer writes. Arrays, so that their lengths are known to both.
 pub(crate) const CLAIMANTS: [u8; 10] = *b"claimants=";
 
 pub(crate) const CEILING: [u8; 8] = *b"ceiling=";

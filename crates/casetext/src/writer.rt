@@ -1,11 +1,10 @@
 // The writer of case texts.
-ghost use Rattle.std.specs.Prelude.{◌≡◌, false, map};
-ghost use Rattle.store.specs.Schedules.{call_of};
-ghost use Rattle.casetext.specs.Layout.{head_text, turn_text, do_text, do_texts};
-ghost use Rattle.casetext.specs.Writing.{Room, Wrote};
-ghost use Rattle.casetext.specs.Written.{some_nine, written, written_row};
+ghost use Rattle.std.specs.Prelude.{◌≡◌, false};
+ghost use Rattle.casetext.specs.Layout.{turn_text, do_text};
+ghost use Rattle.casetext.specs.Written.{some_nine, schedule_text, written, written_row};
 
-use crate::sizes::{head_size, lines_size};
+use crate::sinks::Sink;
+use crate::sizes::Count;
 use crate::spelling::{ASK, CEILING, CLAIMANTS, DO, LEAVE, SESSION, STEP};
 use crate::writing::Pen;
 use rules::{Call, Refusal};
@@ -18,53 +17,45 @@ fn barred(schedule: &[u32]) -> bool
     schedule.iter().any(|entry| decoded(*entry).is_err())
 }
 
-impl<'a> Pen<'a> {
-    // What stands after `do=`.
-    #[tactic(auto, unfolding(crate::specs::Layout::turn_text), using(crate::proofs::Pens::wrote_both))]
-    fn turn(&mut self, call: Call)
-        requires { Room self.old (turn_text call) }
-        ensures { Wrote self.old (turn_text call) self.new }
-    {
-        match call {
-            Call::Ask { who, session } => {
-                self.field(&ASK, who);
-                self.field(&SESSION, session as u32);
-            }
-            Call::Step { who } => self.field(&STEP, who),
-            Call::Leave { who } => self.field(&LEAVE, who),
+// What stands after `do=`. A match: a call of a new kind is left out nowhere.
+#[tactic(auto, unfolding(crate::specs::Layout::turn_text))]
+fn turn<S: Sink>(sink: &mut S, call: Call)
+    requires { S.room sink.old (turn_text call) }
+    ensures { S.took sink.old (turn_text call) sink.new }
+{
+    match call {
+        Call::Ask { who, session } => {
+            sink.field(&ASK, who);
+            sink.field(&SESSION, session as u32);
         }
+        Call::Step { who } => sink.field(&STEP, who),
+        Call::Leave { who } => sink.field(&LEAVE, who),
     }
+}
 
-    // A do line.
-    fn do_line(&mut self, call: Call)
-        requires { Room self.old (do_text call) }
-        ensures { Wrote self.old (do_text call) self.new }
-    {
-        self.word(&DO);
-        self.turn(call);
-        self.word(b"\n");
-    }
+// A do line. Taken into its caller before all else, so that an entry's kind is tested once; a count took 7 instructions an entry more.
+#[inline(always)]
+fn do_line<S: Sink>(sink: &mut S, call: Call)
+    requires { S.room sink.old (do_text call) }
+    ensures { S.took sink.old (do_text call) sink.new }
+{
+    sink.word(&DO);
+    turn(sink, call);
+    sink.word(b"\n");
+}
 
-    // The do lines of a schedule none of whose entries is barred.
-    fn do_lines(&mut self, schedule: &[u32])
-        requires none_barred { some_nine schedule.now ≡ false }
-        requires room { Room self.old (do_texts (map call_of schedule.now)) }
-        ensures { Wrote self.old (do_texts (map call_of schedule.now)) self.new }
-    {
-        for entry in schedule {
-            if let Ok(call) = decoded(*entry) {
-                self.do_line(call);
-            }
+// The text of a case, none of whose entries is barred.
+fn case<S: Sink>(sink: &mut S, claimants: u32, ceiling: u32, schedule: &[u32])
+    requires none_barred { some_nine schedule.now ≡ false }
+    requires room { S.room sink.old (schedule_text claimants ceiling schedule.now) }
+    ensures { S.took sink.old (schedule_text claimants ceiling schedule.now) sink.new }
+{
+    sink.line(&CLAIMANTS, claimants);
+    sink.line(&CEILING, ceiling);
+    for entry in schedule {
+        if let Ok(call) = decoded(*entry) {
+            do_line(sink, call);
         }
-    }
-
-    // The first two lines.
-    fn head(&mut self, claimants: u32, ceiling: u32)
-        requires { Room self.old (head_text claimants ceiling) }
-        ensures { Wrote self.old (head_text claimants ceiling) self.new }
-    {
-        self.line(&CLAIMANTS, claimants);
-        self.line(&CEILING, ceiling);
     }
 }
 
@@ -76,7 +67,8 @@ pub fn write(
     schedule: &[u32],
     out: &mut [u8],
 ) -> Result<usize, Refusal>
-    ensures { (result ≡ written claimants ceiling schedule.now out.old) × (out.new ≡ written_row claimants ceiling schedule.now out.old) }
+    ensures { (result ≡ written claimants ceiling schedule.now out.old)
+        × (out.new ≡ written_row claimants ceiling schedule.now out.old) }
 {
     if barred(schedule) {
         return Err(Refusal::NoCall);
@@ -84,12 +76,12 @@ pub fn write(
     if 2048 < schedule.len() {
         return Err(Refusal::TooManyLines);
     }
-    let bytes = head_size(claimants, ceiling) + lines_size(schedule);
+    let mut count = Count { bytes: 0 };
+    case(&mut count, claimants, ceiling, schedule);
+    let bytes = count.bytes;
     if 32768 < bytes || out.len() < bytes {
         return Err(Refusal::TooLong);
     }
-    let mut pen = Pen::new(out);
-    pen.head(claimants, ceiling);
-    pen.do_lines(schedule);
+    case(&mut Pen::new(out), claimants, ceiling, schedule);
     Ok(bytes)
 }

@@ -11,7 +11,7 @@ ghost use Rattle.colliemist.specs.Count.{counted, bytes_or, entries_or, claimant
 
 use rules::Refusal;
 
-// A count that no limit of document 01 lets pass 32,768.
+// A count that no limit of document 01 lets pass 32,768: the cast is by hand, and its callers prove that it fits.
 fn count(n: usize) -> i64
     requires { n ≤ 32768 }
     ensures { result ≡ pos n }
@@ -40,6 +40,7 @@ pub fn colliemist_report(text: &[u8], out: &mut [u8]) -> u64
 // Reads a case text: its entries into the first places of a lent row, and the two numbers; gives how many entries there are. Of a
 // refused text it gives minus the refusal's number and leaves the row and the two numbers as they were. The line is the refusal's,
 // and 0 where there is none.
+#[tactic(auto, using(casetext::proofs::Readings::read_within))]
 pub fn colliemist_read(
     text: &[u8],
     entries: &mut [u32],
@@ -47,7 +48,11 @@ pub fn colliemist_read(
     ceiling: &mut u32,
     line: &mut usize,
 ) -> i64
-    ensures { (result ≡ entries_or (told (read_into entries.old text.now))) × (entries.new ≡ row_after (read_into entries.old text.now) entries.old) × (claimants.new ≡ claimants_or claimants.old (told (read_into entries.old text.now))) × (ceiling.new ≡ ceiling_or ceiling.old (told (read_into entries.old text.now))) × (line.new ≡ reading_line (told (read_into entries.old text.now))) }
+    ensures { (result ≡ entries_or (told (read_into entries.old text.now)))
+        × (entries.new ≡ row_after (read_into entries.old text.now) entries.old)
+        × (claimants.new ≡ claimants_or claimants.old (told (read_into entries.old text.now)))
+        × (ceiling.new ≡ ceiling_or ceiling.old (told (read_into entries.old text.now)))
+        × (line.new ≡ reading_line (told (read_into entries.old text.now))) }
 {
     match casetext::read(text, entries) {
         Ok(case) => {
@@ -65,8 +70,10 @@ pub fn colliemist_read(
 
 // Writes the case text of a schedule into the first bytes of a lent row and gives how many they are. A refused schedule leaves the
 // row as it was, and the answer is minus the refusal's number.
+#[tactic(auto, using(casetext::proofs::RoundTrips::written_within))]
 pub fn colliemist_write(claimants: u32, ceiling: u32, schedule: &[u32], out: &mut [u8]) -> i64
-    ensures { (result ≡ bytes_or (written claimants ceiling schedule.now out.old)) × (out.new ≡ written_row claimants ceiling schedule.now out.old) }
+    ensures { (result ≡ bytes_or (written claimants ceiling schedule.now out.old))
+        × (out.new ≡ written_row claimants ceiling schedule.now out.old) }
 {
     match casetext::write(claimants, ceiling, schedule, out) {
         Ok(bytes) => count(bytes),

@@ -1,4 +1,5 @@
-// The C symbols: each calls `colliemist`'s function of its name, and says again what that promises.
+// The C symbols: each calls `colliemist`'s function of its name, and says again what that promises. Twice, since a crate is a library or
+// a static library and not both, and the theorems are about the library.
 #![tactic(auto)]
 
 ghost use Rattle.std.specs.Prelude.{◌≡◌};
@@ -28,7 +29,11 @@ pub extern "C" fn colliemist_read(
     ceiling: &mut u32,
     line: &mut usize,
 ) -> i64
-    ensures { (result ≡ entries_or (told (read_into entries.old text.now))) × (entries.new ≡ row_after (read_into entries.old text.now) entries.old) × (claimants.new ≡ claimants_or claimants.old (told (read_into entries.old text.now))) × (ceiling.new ≡ ceiling_or ceiling.old (told (read_into entries.old text.now))) × (line.new ≡ reading_line (told (read_into entries.old text.now))) }
+    ensures { (result ≡ entries_or (told (read_into entries.old text.now)))
+        × (entries.new ≡ row_after (read_into entries.old text.now) entries.old)
+        × (claimants.new ≡ claimants_or claimants.old (told (read_into entries.old text.now)))
+        × (ceiling.new ≡ ceiling_or ceiling.old (told (read_into entries.old text.now)))
+        × (line.new ≡ reading_line (told (read_into entries.old text.now))) }
 {
     colliemist::colliemist_read(text, entries, claimants, ceiling, line)
 }
@@ -42,7 +47,8 @@ pub extern "C" fn colliemist_write(
     schedule: &[u32],
     out: &mut [u8],
 ) -> i64
-    ensures { (result ≡ bytes_or (written claimants ceiling schedule.now out.old)) × (out.new ≡ written_row claimants ceiling schedule.now out.old) }
+    ensures { (result ≡ bytes_or (written claimants ceiling schedule.now out.old))
+        × (out.new ≡ written_row claimants ceiling schedule.now out.old) }
 {
     colliemist::colliemist_write(claimants, ceiling, schedule, out)
 }

@@ -7,7 +7,7 @@
 ghost use Rattle.std.specs.Prelude.{◌≤◌, length};
 
 use arrayvec::ArrayVec;
-use casetext::{Case, Fault};
+use casetext::Fault;
 use std::io;
 use std::io::Write;
 
@@ -73,14 +73,14 @@ const SITUATIONS: [Situation; 6] = [
 ];
 
 impl Situation {
-    // The text, as far as there is room: a write takes as many bytes as fit.
+    // The text, for which there is room.
     fn text(&self) -> io::Result<Text> {
         let mut text = Text::new();
-        text.write(self.head)?;
+        text.write_all(self.head)?;
         for _ in 0..self.times {
-            text.write(self.line)?;
+            text.write_all(self.line)?;
         }
-        text.write(self.tail)?;
+        text.write_all(self.tail)?;
         Ok(text)
     }
 
@@ -92,17 +92,14 @@ impl Situation {
     }
 }
 
-// What the reader gives back.
+// What the reader gives back. It is lent a row, as from C; so are the report and the writer below.
 fn tell_reading(rt: &impl Print, text: &[u8]) -> io::Result<()> {
     let mut entries = [0u32; 2048];
     match casetext::read(text, &mut entries) {
-        Ok(
-            Case {
-                claimants,
-                ceiling,
-                count,
-            },
-        ) => print!(rt; " read claimants={claimants} ceiling={ceiling} entries={count}"),
+        Ok(case) => {
+            let (claimants, ceiling, count) = (case.claimants, case.ceiling, case.count);
+            print!(rt; " read claimants={claimants} ceiling={ceiling} entries={count}")
+        }
         Err(Fault { refusal, line }) => {
             print!(rt; " read refused={} line={line}", u8::from(refusal))
         }
@@ -144,6 +141,7 @@ fn last_line(bytes: &[u8]) -> usize
 const ASK: u32 = 0x010a_ffff;
 
 // What the writer gives back for 2,046 of these entries.
+#[tactic(auto, using(casetext::proofs::RoundTrips::written_within))]
 fn tell_written(rt: &impl Print, name: &str, claimants: u32) -> io::Result<()> {
     let schedule = [ASK; 2046];
     // There is room for a byte more than the longest text has, so that its length isn't the row's.

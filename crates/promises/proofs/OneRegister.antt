@@ -19,7 +19,7 @@ use Rattle.rules.specs.declared.Claimant.{Claimant}
 use Rattle.rules.specs.declared.Terms.{Terms}
 use Rattle.rules.specs.declared.Turn.{Turn}
 use Rattle.rules.specs.declared.Register.{Register}
-use Rattle.rules.proofs.Choices.{decide, true_not_false, judged}
+use Rattle.rules.proofs.Choices.{decide, judged}
 use Rattle.rules.proofs.Shapes.{◌&◌, between}
 use Rattle.promises.specs.OneRegister.{write_at, writes, shared, written, Accepted, is_write, ReadsOrWrites, WritesOne, ValueIgnored}
 use Rattle.promises.specs.OneRegister.{SeesOne, AskTouchesNone, LeaveTouchesNone, OthersUntouched}
@@ -53,18 +53,18 @@ unfolding stepped write_at read_at
 acts n k i v v' Rest c = record { writes_it = refl; ignores = λ e. refl }
 acts n k i v v' Sign c = record { writes_it = refl; ignores = λ e. refl }
 acts n k i v v' Raise c = record { writes_it = refl; ignores = λ e. refl }
-acts n k i v v' Scan c = record { writes_it = decide (eqb c.other n) (λ e. rw e) (λ e. rw e); ignores = true_not_false }
+acts n k i v v' Scan c = record { writes_it = decide (eqb c.other n) (λ e. rw e) (λ e. rw e); ignores = λ e. cc }
 acts n k i v v' Take c = record { writes_it = decide (ltb c.seen k.ceiling) (λ e. rw e) (λ e. rw e); ignores = λ e. refl }
 acts n k i v v' Lower c = record { writes_it = refl; ignores = λ e. refl }
-acts n k i v v' SeeChoosing c = record { writes_it = refl; ignores = true_not_false }
-acts n k i v v' SeeSession c = record { writes_it = refl; ignores = true_not_false }
+acts n k i v v' SeeChoosing c = record { writes_it = refl; ignores = λ e. cc }
+acts n k i v v' SeeSession c = record { writes_it = refl; ignores = λ e. cc }
 acts n k i v v' SeeToken c =
     record {
       writes_it = decide (eqb v 0 or before c.token i v c.other) (λ e. rw e (passed_keeps n c)) (λ e. rw e);
-      ignores = true_not_false;
+      ignores = λ e. cc;
     }
 acts n k i v v' SeeAgain c =
-    record { writes_it = decide (conflict v c.want) (λ e. rw e) (λ e. rw e (passed_keeps n c)); ignores = true_not_false }
+    record { writes_it = decide (conflict v c.want) (λ e. rw e) (λ e. rw e (passed_keeps n c)); ignores = λ e. cc }
 acts n k i v v' Inside c = record { writes_it = refl; ignores = λ e. refl }
 acts n k i v v' DropToken c = record { writes_it = refl; ignores = λ e. refl }
 acts n k i v v' DropSession c = record { writes_it = refl; ignores = λ e. refl }
@@ -80,7 +80,7 @@ writes_one n k i v c =
 
 holds_unread : (r : Option Register) (k : Terms) (v v' : ℕ) → is_some r ≡ false → holds r k v ≡ holds r k v'
 holds_unread None k v v' e = refl
-holds_unread (Some r) k v v' e = true_not_false e
+holds_unread (Some r) k v v' e = cc
 
 pub value_ignored : ValueIgnored
 unfolding ValueIgnored step_taken reads

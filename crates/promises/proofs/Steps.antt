@@ -12,7 +12,7 @@ use Rattle.rules.specs.declared.Claimant.{Claimant}
 use Rattle.rules.specs.declared.Terms.{Terms}
 use Rattle.rules.specs.declared.Call.{Call}
 use Rattle.rules.specs.declared.Call.TheVariants.{Ask, Leave}
-use Rattle.rules.proofs.Choices.{decide, true_not_false}
+use Rattle.rules.proofs.Choices.{decide}
 use Rattle.rules.proofs.Moves.{Move, Edged, edged, chosen, walked}
 use Rattle.rules.proofs.Moves.Move.{edge, choice, walk}
 use Rattle.rules.proofs.Moves.Edge.{asks, signs, turned_away, leaves, drops_token, drops_session}
@@ -58,14 +58,14 @@ module _ (k : Terms) (t : Table) (i : ℕ) where
   unfolding asks_in
   not_asked w s e = elim (own_next i (next k (Ask w s) t)) [
     | inl h ↦ h
-    | inr m ↦ true_not_false (rw (eq-eqb _ 0 m.1.0, eq-eqb _ 1 (first_move m.2 m.1.0)) at e)
+    | inr m ↦ cc (rw (eq-eqb _ 0 m.1.0, eq-eqb _ 1 (first_move m.2 m.1.0)) at e)
   ]
 
   pub not_left : (w : ℕ) → leaves_in i (Leave w) t (called k (Leave w) t).table ≡ false → record_of (called k (Leave w) t).table i ≡ record_of t i
   unfolding leaves_in
   not_left w e = elim (own_next i (next k (Leave w) t)) [
     | inl h ↦ h
-    | inr m ↦ true_not_false (rw (eq-eqb _ 10 m.1, eq-eqb _ 11 ((last_moves m.2 (omega (arith, m.1))).leaving m.1)) at e)
+    | inr m ↦ cc (rw (eq-eqb _ 10 m.1, eq-eqb _ 11 ((last_moves m.2 (omega (arith, m.1))).leaving m.1)) at e)
   ]
 
 -- What holds throughout holds at once.

@@ -1,5 +1,5 @@
 -- What a test tells: choices, conjunctions, refusals, and `conflict` and `before` as facts on numbers.
-use mathlib.Core.Path.{◌≡◌, refl, sym, ◌∙◌}
+use mathlib.Core.Path.{◌≡◌, refl}
 use mathlib.Core.Bool.{Bool, true, false, not}
 use mathlib.Core.List.{List, [], ◌∷◌, ◌++◌}
 use mathlib.Core.Logic.{◌≢◌, ◌⊎◌, inl, inr}
@@ -9,26 +9,22 @@ use lib.Dec.{eqb, leb, ltb}
 pub use borrow.Table.Steps.{cases as decide}
 use borrow.Author.Tests.{leb-true, eqb-true, eqb-false, ltb-true, not-true, le-leb, ne_eqb}
 use Rattle.std.specs.Prelude.{Ok, Err}
-use Rattle.std.proofs.lemmas.Bool.{true≢false}
-use Rattle.std.proofs.lemmas.Result.{IfOk-at_ok, IfErr-at_err}
+use Rattle.std.proofs.lemmas.Result.{IfErr-at_err}
 use Rattle.rules.specs.Tests.{◌and◌, ◌or◌, within, Listed, Verdict, first, by_verdict}
 use Rattle.rules.specs.Answers.{refusal_number}
 use Rattle.rules.specs.Rules.{conflict, before}
 use Rattle.rules.specs.declared.Refusal.{Refusal}
 
-pub true_not_false : {A : Type 0} → true ≡ false → A
-true_not_false e = absurd (true≢false e)
-
 pub both : (a b : Bool) → (a and b) ≡ true → (a ≡ true) × (b ≡ true)
 both true b e = (refl, e)
-both false b e = true_not_false (sym e)
+both false b e = cc
 
 pub either : (a b : Bool) → (a or b) ≡ true → (a ≡ true) ⊎ (b ≡ true)
 either true b e = inl refl
 either false b e = inr e
 
 pub neither : (a b : Bool) → (a or b) ≡ false → (a ≡ false) × (b ≡ false)
-neither true b e = true_not_false e
+neither true b e = cc
 neither false b e = (refl, e)
 
 pub within_true : (low high x : ℕ) → within low high x ≡ true → (low ≤ x) × (x ≤ high)
@@ -38,10 +34,6 @@ within_true low high x e =
 pub within_holds : (low high x : ℕ) → low ≤ x → x ≤ high → within low high x ≡ true
 within_holds low high x h g = rw (le-leb low x h, le-leb x high g)
 
--- No verdict both refuses and lets go on.
-err_not_ok : {A : Type 0} {r : Refusal} {u : Unit {0}} → ◌≡◌ {A = Verdict} (Err r) (Ok u) → A
-err_not_ok {A} e = IfOk-at_ok (λ u. A) e tt
-
 -- None of the refusals is given.
 abbrev pub NoneGiven : List Listed → Type 0
 NoneGiven [] = Unit {0}
@@ -50,7 +42,7 @@ NoneGiven (r ∷ rs) = (r.given ≡ false) × NoneGiven rs
 pub none_given : (rs : List Listed) → first rs ≡ Ok tt → NoneGiven rs
 unfolding first
 none_given [] e = tt
-none_given (r ∷ rs) e = decide r.given (λ g. err_not_ok (rw g at e)) (λ g. (g, none_given rs (rw g at e)))
+none_given (r ∷ rs) e = decide r.given (λ g. cc (rw g at e)) (λ g. (g, none_given rs (rw g at e)))
 
 pub none_refuses : (rs : List Listed) → NoneGiven rs → first rs ≡ Ok tt
 unfolding first
@@ -70,7 +62,7 @@ Numbered m (r ∷ rs) = (refusal_number r.refusal ≤ m) × Numbered m rs
 
 pub first_small : (m : ℕ) (rs : List Listed) → Numbered m rs → (r : Refusal) → first rs ≡ Err r → refusal_number r ≤ m
 unfolding first
-first_small m [] p r e = err_not_ok (sym e)
+first_small m [] p r e = cc
 first_small m (x ∷ rs) p r e =
     decide x.given
     (λ g. IfErr-at_err (λ y. refusal_number y ≤ m) (rw g at e) p.0)
@@ -79,7 +71,7 @@ first_small m (x ∷ rs) p r e =
 by_first : {A : Type 0} (P : A → Type 0) (a : A) (f : Refusal → A) (rs : List Listed) → (NoneGiven rs → P a)
     → (¬ (NoneGiven rs) → (r : Refusal) → first rs ≡ Err r → P (f r)) → (v : Verdict) → first rs ≡ v → P (by_verdict v a f)
 by_first P a f rs p q (Ok u) e = p (none_given rs e)
-by_first P a f rs p q (Err r) e = q (λ h. err_not_ok (sym e ∙ none_refuses rs h)) r e
+by_first P a f rs p q (Err r) e = q (λ h. cc (none_refuses rs h)) r e
 
 -- A judgement by refusals: the one if none is given, and else what the first that is given says.
 pub judged : {A : Type 0} (P : A → Type 0) (a : A) (f : Refusal → A) (rs : List Listed) → (NoneGiven rs → P a)
@@ -107,7 +99,7 @@ unfolding conflict
 conflict_holds {s} {t} c = rw (le-leb 1 s c.some, le-leb 1 t c.others, ne_eqb s t c.differ)
 
 pub conflict_false : (s t : ℕ) → conflict s t ≡ false → ¬ (Conflict s t)
-conflict_false s t e c = true_not_false (sym (conflict_holds c) ∙ e)
+conflict_false s t e c = cc (conflict_holds c)
 
 -- (token, number) is below (token', number').
 pub record Before (t i u j : ℕ) : Type 0 where

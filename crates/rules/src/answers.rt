@@ -49,7 +49,7 @@ impl From<Answer> for u16 {
     }
 }
 
-// The answer byte of a schedule's entry.
+// The answer byte of a schedule's entry: 01's number, of which a byte takes the remainder. No answer of a call passes it.
 impl From<Answer> for u8 {
     ghost from_gives = { λ a n. n ≡ byte_of a };
 

@@ -5,7 +5,7 @@ ghost use Rattle.rules.specs.Places.{allows, fits, well_formed};
 
 use crate::{Board, Claimant, Kind, Place, Row};
 
-// The rows, by what a record with such a row is at.
+// The eight different rows, by what a record with such a row is at; each whole, as 01's table has it.
 const REST: Row = Row {
     session: Kind::Zero,
     want: Kind::Zero,
@@ -79,7 +79,7 @@ const INSIDE: Row = Row {
 };
 
 impl Row {
-    // Whether each field of the record is of its kind. Set, Session is the want, and the others are from 1 on. Where the row is known,
+    // Whether each field of the record is of its kind. Set, Session is the want, Choosing 1, and each other from 1 on. Where the row is known,
     // each kind's test is too, so that a place's check is straight code: hence `inline`.
     #[inline(always)]
     #[tactic(auto, unfolding(crate::specs::Places::fits))]
@@ -112,7 +112,7 @@ impl Kind {
 }
 
 impl Claimant {
-    // A record of zeros: a claimant at rest.
+    // A record of zeros: a claimant at rest. Written out, field by field as 01 has it, and no default of its types.
     pub fn blank() -> Claimant
         ensures { result ≡ blank }
     {
@@ -127,7 +127,7 @@ impl Claimant {
         }
     }
 
-    // Whether the record keeps its place's row, in such a table. This is the table of thirteen rows.
+    // Whether the record keeps its place's row, in such a table. This is the table of thirteen rows: which of them a place has.
     #[tactic(auto, unfolding(crate::specs::Places::rows), using(crate::proofs::Places::well_formed_at))]
     pub fn well_formed(self, board: Board) -> bool
         ensures { result ≡ well_formed board.n board.terms self }

@@ -1,5 +1,5 @@
 // The lock's rules for one claimant: its record goes in and comes back with one call done, beside the one register value
-// that it read. Document 01 names each type and field here.
+// that it read. Records, calls, registers and their fields have document 01's names.
 #![tactic(auto)]
 
 mod answers;
@@ -11,8 +11,9 @@ mod turns;
 
 pub use order::conflict;
 
-// A claimant's record, in the order of a packed row. Session, Choosing and Token are shared; the rest is its own. Its place is a
-// number and no `Place`, since a table may hold any: one that is no place is broken.
+// A claimant's record, in the order of a packed row. Session, Choosing and Token are shared; the rest is its own. Place and Choosing
+// are numbers, and no `Place` and no `bool`, since a lent table may hold any: a record that no rule leaves is broken. `want` is the
+// session asked for, `other` the row looked at, `seen` the largest token read so far; 0 is 01's none.
 #[derive(Clone, Copy)]
 pub struct Claimant {
     pub place: u8,
@@ -24,7 +25,7 @@ pub struct Claimant {
     pub seen: u32,
 }
 
-// The places, in the order of 01's numbers, and what a number over 12 is.
+// The places, in the order of 01's numbers. A number over 12 is `Nowhere`, and no error, so that one match covers every record.
 #[derive(Clone, Copy, Debug, PartialEq, Eq)]
 pub enum Place {
     Rest,
@@ -49,13 +50,14 @@ pub struct Terms {
     pub ceiling: u32,
 }
 
-// What a rule is told of the table beside that: how many rows it has.
+// What a rule is told of the table: how many rows it has, and the terms.
 #[derive(Clone, Copy)]
 pub struct Board {
     pub n: usize,
     pub terms: Terms,
 }
 
+// A call of claimant `who`.
 #[derive(Clone, Copy)]
 pub enum Call {
     Ask { who: u32, session: u16 },
@@ -81,7 +83,8 @@ pub enum Refusal {
     TooManyLines = 13,
 }
 
-// The place reached, a turned-away take, or the refusal.
+// The number of the place reached, as the record has it, a turned-away take, or the refusal. No `Result`: two of the three cases
+// refuse nothing, and 01's numbers and the theorems are over the three.
 #[derive(Clone, Copy)]
 pub enum Answer {
     Reached(u8),

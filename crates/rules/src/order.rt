@@ -15,5 +15,5 @@ pub fn conflict(s: u32, t: u32) -> bool
 pub(crate) fn before(token: u32, number: u32, token2: u32, number2: u32) -> bool
     ensures { result ≡ before token number token2 number2 }
 {
-    token < token2 || token == token2 && number < number2
+    (token, number) < (token2, number2)
 }

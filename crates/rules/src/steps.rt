@@ -1,5 +1,7 @@
 // One step at each place: one register read, or one written.
-ghost use Rattle.std.specs.Prelude.{◌≡◌, ◌≤◌};
+ghost use Rattle.std.specs.Prelude.{◌≡◌, ◌+◌, ◌≤◌, eqb};
+ghost use Rattle.rules.specs.Tests.{pick};
+ghost use Rattle.rules.specs.Records.{placed, with_other};
 ghost use Rattle.rules.specs.Places.{place_at};
 ghost use Rattle.rules.specs.Rules.{reached, passed, signed, raised, scanned, taken, lowered, saw_choosing, saw_session, saw_token, saw_again, dropped_token, dropped_session, stepped};
 
@@ -75,7 +77,7 @@ pub(crate) struct Stepping {
 }
 
 impl Stepping {
-    // The step of the place; rest and inside take none.
+    // The step of the place; rest and inside take none. A match, and no table of functions: no place is left out, and it is one jump.
     #[tactic(auto, unfolding(crate::specs::Rules::stepped))]
     pub(crate) fn turn(self) -> Turn
         ensures { result ≡ stepped (place_at self.own.place) self.board.n self.board.terms self.number self.value self.own }
@@ -96,19 +98,11 @@ impl Stepping {
         }
     }
 
-    fn scan(self) -> Turn
+    fn scan(mut self) -> Turn
         ensures { result ≡ scanned self.board.n self.value self.own }
     {
-        let mut own = self.own;
-        own.seen = own.seen.max(self.value);
-        if own.other as usize == self.board.n {
-            own.place = Place::Take as u8;
-            own.other = 0;
-        } else {
-            own.place = Place::Scan as u8;
-            own.other += 1;
-        }
-        own.reached()
+        self.own.seen = self.own.seen.max(self.value);
+        self.onward(Place::Scan as u8, Place::Take as u8)
     }
 
     fn take(self) -> Turn
@@ -181,12 +175,21 @@ impl Stepping {
     fn pass(self) -> Turn
         ensures { result ≡ reached (passed self.board.n self.own) }
     {
+        self.onward(Place::SeeChoosing as u8, Place::Inside as u8)
+    }
+
+    // On to the next row, at the one place, or past the last row, to the other.
+    fn onward(self, next: u8, past: u8) -> Turn
+        ensures { result ≡ reached (pick (eqb self.own.other self.board.n)
+            (placed past (with_other 0 self.own))
+            (placed next (with_other (self.own.other + 1) self.own))) }
+    {
         let mut own = self.own;
         if own.other as usize == self.board.n {
-            own.place = Place::Inside as u8;
+            own.place = past;
             own.other = 0;
         } else {
-            own.place = Place::SeeChoosing as u8;
+            own.place = next;
             own.other += 1;
         }
         own.reached()

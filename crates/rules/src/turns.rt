@@ -7,7 +7,7 @@ use crate::steps::Stepping;
 use crate::{Answer, Board, Claimant, Place, Refusal, Terms, Turn};
 
 impl Board {
-    // 1 and 2, which opening a table gives, and every call before all else.
+    // `RowCount` and `NoCeiling`, which opening a table gives, and every call before all else.
     #[tactic(auto, unfolding(crate::specs::Tests::first))]
     pub fn opens(self) -> Result<(), Refusal>
         ensures { result ≡ first (open_refusals self.n self.terms) }
@@ -21,7 +21,7 @@ impl Board {
         Ok(())
     }
 
-    // 1 to 4, which every call gives before its own. `sound` is what was found of the record.
+    // Those, `Broken` and `NoClaimant`, which every call gives before its own. `sound` is what was found of the record.
     #[tactic(auto, unfolding(crate::specs::Tests::first, crate::specs::Rules::refusals))]
     fn takes(self, number: u32, sound: bool) -> Result<(), Refusal>
         ensures { result ≡ first (refusals self.n self.terms number (not sound) []) }
@@ -94,7 +94,8 @@ impl Claimant {
         Ok(())
     }
 
-    // Asks for a session. Touches no register, so the value is ignored.
+    // Asks for a session. Touches no register, so the value is ignored; 01 gives each rule N and the ceiling (a board), the number and
+    // a value, by name.
     #[tactic(auto, unfolding(crate::specs::Rules::asked, crate::specs::Rules::unless))]
     pub fn ask(mut self, board: Board, number: u32, _value: u32, session: u16) -> Turn
         ensures { result ≡ asked board.n board.terms number session self }
@@ -108,7 +109,7 @@ impl Claimant {
     }
 
     // Takes one step, given the value of the register that `reads` names.
-    #[tactic(auto, unfolding(crate::specs::Rules::step_taken, crate::specs::Rules::unless))]
+    #[tactic(auto, unfolding(crate::specs::Rules::step_taken, crate::specs::Rules::unless), using(crate::proofs::Refusing::next_fits))]
     pub fn step(self, board: Board, number: u32, value: u32) -> Turn
         ensures { result ≡ step_taken board.n board.terms number value self }
     {

@@ -1,28 +1,21 @@
 -- The laws that the layers above rely on.
 use native.Mathlib.Omega.{arith}
-use mathlib.Core.Path.{◌≡◌, sym}
-use Prim.Native.Nat.{ℕ}
-use Rattle.std.specs.Prelude.{Ok, Err}
-use Rattle.rules.specs.declared.Call.{Call}
+use mathlib.Core.Path.{◌≡◌}
+use Rattle.std.specs.Prelude.{Ok}
 use Rattle.rules.proofs.Choices.{decide}
 use Rattle.rules.proofs.Laws.{call_answer_small}
-use Rattle.store.specs.declared.Barred.{Barred}
 use Rattle.store.specs.Schedules.{Entry, is_nine, call_of, decoded, entered}
 use Rattle.store.specs.Laws.{EntryBarred, EntryMade, EntryIs, EntryKeepsSound, EntryAnswerSmall}
 use Rattle.store.proofs.Entering.{sound_entered}
 
--- An entry is of one kind only.
-not_both {ℓ} : {A : Type ℓ} {c : Call} {b : Barred} → ◌≡◌ {A = Entry} (Ok c) (Err b) → A
-not_both e = let z : ◌≡◌ {A = ℕ} 0 1 = cc in absurd (omega arith)
-
 pub entry_barred : EntryBarred
 unfolding decoded
-entry_barred e b p = decide (is_nine e) (λ a. a) (λ a. not_both (rw a at p))
+entry_barred e b p = decide (is_nine e) (λ a. a) (λ a. cc (rw a at p))
 
 pub entry_made : EntryMade
 unfolding decoded
 entry_made e c p =
-    decide (is_nine e) (λ a. not_both (sym (rw a at p)))
+    decide (is_nine e) (λ a. cc (rw a at p))
     (λ a.
     let q : ◌≡◌ {A = Entry} (Ok (call_of e)) (Ok c) = rw a at p in
     (a, cc))

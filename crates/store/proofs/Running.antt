@@ -10,9 +10,10 @@ use Rattle.rules.specs.Tests.{Verdict}
 use Rattle.rules.specs.Tables.{Table, record_of, Sound}
 use Rattle.rules.specs.declared.Terms.{Terms}
 use Rattle.rules.specs.declared.Turn.{Turn}
+use Rattle.store.specs.declared.refusals.Judged.{Judged}
 use Rattle.store.specs.Entries.{written, caller_of, turn_in}
 use Rattle.store.specs.Schedules.{Entry, claimant_in, decoded, entered, ran, answered}
-use Rattle.store.specs.Runs.{lowest_broken, run_refusal, ran_unless, running}
+use Rattle.store.specs.Runs.{judged_of, run_refusal, ran_unless, running}
 use Rattle.store.specs.Trials.{five, traced}
 use Rattle.store.proofs.Lowest.{broken_is}
 use Rattle.store.proofs.Entering.{Does, named, entered_is, sound_entered}
@@ -68,8 +69,8 @@ module _ (k : Terms) (es : List ℕ) (t₀ : Table) (i : ℕ) (s : Sound (length
   went_on p q f = rw (f.0, f.1, q, p) went
 
 -- What a run gives back, by what its code finds of the table.
-pub run_is : (k : Terms) (es row : List ℕ) (t : Table) {v : Verdict}
-    → v ≡ run_refusal (length t) k (is_some (lowest_broken k t)) (length es) (length row)
+pub run_is : (k : Terms) (es row : List ℕ) (t : Table) {j : Judged} {v : Verdict}
+    → j ≡ judged_of k t → v ≡ run_refusal j.board.n j.board.terms (is_some j.broken) (length es) (length row)
     → running k es row t ≡ ran_unless v k es row t
 unfolding running
-run_is k es row t e = rw (e, broken_is k t)
+run_is k es row t f e = rw (e, f, broken_is k t)

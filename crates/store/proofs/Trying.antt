@@ -30,3 +30,5 @@ module _ (n : ℕ) (k : Terms) (m l : ℕ) (e : trial_refusal n k m l ≡ Ok tt)
   pub part_sound : {b : Claimant} → b ≡ blank → Sound (length (take n (replicate 64 b))) k (take n (replicate 64 b))
   unfolding opened
   part_sound p = rw (part_is p, length-replicate n blank) (opened_is_sound n k (trial_opens n k m l e).0)
+
+pub ruleset opened_part = (few_rows, room, part_is, part_size, part_sound)

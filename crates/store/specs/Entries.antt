@@ -2,8 +2,8 @@
 -- already. The other modules say what it comes to.
 use Rattle.std.specs.Prelude.{ℕ, zero, suc, Bool, [], ◌∷◌, ◌++◌, length, set, Option, None, Some, Ok, Err}
 use Rattle.rules.specs.Tests.{◌when◌, Verdict, first, by_verdict}
-use Rattle.rules.specs.Rules.{reads, value_in, open_refusals, asked, step_taken, left}
-use Rattle.rules.specs.Tables.{Table, record_of, row_read, caller}
+use Rattle.rules.specs.Rules.{open_refusals, asked, step_taken, left}
+use Rattle.rules.specs.Tables.{Table, record_of, value_read, caller}
 use Rattle.rules.specs.declared.Claimant.{Claimant}
 use Rattle.rules.specs.declared.Terms.{Terms}
 use Rattle.rules.specs.declared.Turn.{Turn}
@@ -28,19 +28,19 @@ abbrev pub caller_of : Entry → ℕ
 caller_of (Ok c) = caller c
 caller_of (Err b) = b.who
 
--- The rule for a call, on the caller's own record and the one that it looks at.
-abbrev pub turn_on : (n : ℕ) → Terms → Call → (own looked : Claimant) → Turn
-turn_on n k (Ask w s) c d = asked n k w s c
-turn_on n k (Step w) c d = step_taken n k w (value_in (reads c) d) c
-turn_on n k (Leave w) c d = left n k w c
+-- The rule for a call, on the caller's own record and the value that its place reads.
+abbrev pub turn_on : (n : ℕ) → Terms → Call → (own : Claimant) → (v : ℕ) → Turn
+turn_on n k (Ask w s) c v = asked n k w s c
+turn_on n k (Step w) c v = step_taken n k w v c
+turn_on n k (Leave w) c v = left n k w c
 
-abbrev pub turn_for : (n : ℕ) → Terms → Entry → (own looked : Claimant) → Turn
-turn_for n k (Ok c) own d = turn_on n k c own d
-turn_for n k (Err b) own d = record { after = own; answer = Refused b.refusal }
+abbrev pub turn_for : (n : ℕ) → Terms → Entry → (own : Claimant) → (v : ℕ) → Turn
+turn_for n k (Ok c) own v = turn_on n k c own v
+turn_for n k (Err b) own v = record { after = own; answer = Refused b.refusal }
 
 -- The turn of an entry in a table.
 unfoldable pub turn_in : Terms → Entry → Table → Turn
-turn_in k e t = turn_for (length t) k e (record_of t (caller_of e)) (record_of t (row_read (reads (record_of t (caller_of e)))))
+turn_in k e t = let own = record_of t (caller_of e) in turn_for (length t) k e own (value_read t own)
 
 -- 1, 2 and 3, which bar each call on a table.
 unfoldable pub table_bar : (n : ℕ) → Terms → (broken : Bool) → Verdict

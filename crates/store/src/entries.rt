@@ -1,14 +1,15 @@
 // What an entry says, and what it does to its caller's record.
 ghost use Rattle.std.specs.Prelude.{◌≡◌};
-ghost use Rattle.rules.specs.Rules.{reads, value_in};
-ghost use Rattle.rules.specs.Tables.{caller, row_read};
+ghost use Rattle.rules.specs.Tables.{caller};
 ghost use Rattle.store.specs.Entries.{row_at, caller_of, turn_on, turn_for};
 ghost use Rattle.store.specs.Schedules.{decoded};
 
 use crate::Barred;
 use rules::{Answer, Board, Call, Claimant, Refusal, Turn};
 
-// A 32-bit number: kind × 16,777,216 + claimant × 65,536 + session. Kind 0 is step, 1 ask, 2 leave; only an ask has a session.
+// A 32-bit number: kind × 16,777,216 + claimant × 65,536 + session. Kind 0 is step, 1 ask, 2 leave; only an ask has a session. 01 has it
+// decoded by division and remainder. No
+// `TryFrom`: a `Call` is of `rules`, where nothing is known of schedules.
 #[tactic(auto, unfolding(crate::specs::Schedules::decoded))]
 pub fn decoded(entry: u32) -> Result<Call, Barred>
     ensures { result ≡ decoded entry }
@@ -41,22 +42,16 @@ pub(crate) fn caller(call: Call) -> u32
     ensures { result ≡ caller call }
 {
     match call {
-        Call::Ask { who, session: _ } => who,
-        Call::Step { who } => who,
-        Call::Leave { who } => who,
+        Call::Ask { who, .. } | Call::Step { who } | Call::Leave { who } => who,
     }
 }
 
-pub(crate) fn turn(
-    entry: Result<Call, Barred>,
-    board: Board,
-    own: Claimant,
-    looked: Claimant,
-) -> Turn
-    ensures { result ≡ turn_for board.n board.terms entry own looked }
+// What an entry does to its caller's record, given the one register value that this reads.
+pub(crate) fn turn(entry: Result<Call, Barred>, board: Board, own: Claimant, value: u32) -> Turn
+    ensures { result ≡ turn_for board.n board.terms entry own value }
 {
     match entry {
-        Ok(call) => turn_on(call, board, own, looked),
+        Ok(call) => turn_on(call, board, own, value),
         Err(barred) => Turn {
             after: own,
             answer: Answer::Refused(barred.refusal),
@@ -64,35 +59,14 @@ pub(crate) fn turn(
     }
 }
 
-// The rule for the call, given the one register value that the caller's place reads in the record looked at.
-fn turn_on(call: Call, board: Board, own: Claimant, looked: Claimant) -> Turn
-    ensures { result ≡ turn_on board.n board.terms call own looked }
+// The rule for the call. A match: a call of a new kind is left out nowhere.
+fn turn_on(call: Call, board: Board, own: Claimant, value: u32) -> Turn
+    ensures { result ≡ turn_on board.n board.terms call own value }
 {
-    let value = value_read(own, looked);
     match call {
         Call::Ask { who, session } => own.ask(board, who, value, session),
         Call::Step { who } => own.step(board, who, value),
         Call::Leave { who } => own.leave(board, who, value),
-    }
-}
-
-// The number of the record that a claimant looks at; 0, which is nobody's, where it reads nothing.
-pub(crate) fn looked_at(own: Claimant) -> u32
-    ensures { result ≡ row_read (reads own) }
-{
-    match own.reads() {
-        Some(register) => register.row() as u32,
-        None => 0,
-    }
-}
-
-// The one value that it reads there.
-fn value_read(own: Claimant, looked: Claimant) -> u32
-    ensures { result ≡ value_in (reads own) looked }
-{
-    match own.reads() {
-        Some(register) => register.value(looked),
-        None => 0,
     }
 }
 

@@ -1,9 +1,10 @@
 // The table, lent as a row of claimant records: open, call, run and standing. What decides is in functions by value
-// (`entries`, `refusals`, `standings`); each function over the row reads a record, calls those, and writes the record back.
+// (`entries`, `refusals`, `standings`, `traces`); a function over the row reads a record, calls those, and writes it back. 01 lends the
+// rows and gives the terms with each call, so they are two parameters.
 #![tactic(auto)]
 
 ghost use Rattle.std.specs.Prelude.{◌≡◌, ◌*◌, ◌≤◌, ◌++◌, length, drop};
-ghost use Rattle.rules.specs.Tables.{record_of, called, Sound};
+ghost use Rattle.rules.specs.Tables.{record_of, value_read, called, Sound};
 ghost use Rattle.store.specs.Entries.{written, caller_of, turn_in};
 ghost use Rattle.store.specs.Runs.{board_of, first_broken, lowest_broken, judged_of, open_refusal, opening, running};
 ghost use Rattle.store.specs.Trials.{traced, trial_left, trial_outcome};
@@ -44,7 +45,8 @@ pub fn lowest_broken(rows: &[Claimant], terms: Terms) -> Option<usize>
     Some(row + 1)
 }
 
-// Where the first record that is not well-formed stands, from 0.
+// Where the first record that is not well-formed stands, from 0. In one chain with the + 1 its goal stays open: past a `map` it isn't
+// known what `position` gave.
 fn first_broken(rows: &[Claimant], terms: Terms) -> Option<usize>
     ensures { result ≡ first_broken terms rows.now }
 {
@@ -52,6 +54,7 @@ fn first_broken(rows: &[Claimant], terms: Terms) -> Option<usize>
     rows.iter().position(|record| !record.well_formed(board))
 }
 
+// What is found of a table before anything is done to it.
 fn judged(rows: &[Claimant], terms: Terms) -> Judged
     ensures { result ≡ judged_of terms rows.now }
 {
@@ -61,7 +64,7 @@ fn judged(rows: &[Claimant], terms: Terms) -> Judged
     }
 }
 
-// The record of claimant `number`, or a blank one where there is no such claimant.
+// The record of claimant `number`, or a blank one where there is no such claimant: 01 says zeros of those.
 #[tactic(auto, unfolding(crate::specs::Entries::row_at, rules::specs::Tables::record_of))]
 fn record_of(rows: &[Claimant], number: u32) -> Claimant
     ensures { result ≡ record_of rows.now number }
@@ -72,7 +75,19 @@ fn record_of(rows: &[Claimant], number: u32) -> Claimant
     rows.get(row).copied().unwrap_or(Claimant::blank())
 }
 
-// The record of claimant `number` is written; nothing is where there is no such claimant.
+// The value that a claimant with this record reads in the table; 0 where it reads nothing.
+#[tactic(auto, unfolding(rules::specs::Tables::value_read))]
+fn value_read(rows: &[Claimant], own: Claimant) -> u32
+    ensures { result ≡ value_read rows.now own }
+{
+    match own.reads() {
+        Some(register) => register.value(record_of(rows, register.row() as u32)),
+        None => 0,
+    }
+}
+
+// The record of claimant `number` is written; nothing is where there is no such claimant. By an index: after a write through
+// `get_mut` only the row's length is known.
 #[tactic(auto, unfolding(crate::specs::Entries::written, crate::specs::Entries::row_at))]
 fn write(rows: &mut [Claimant], number: u32, own: Claimant)
     ensures { rows.new ≡ written rows.old number own }
@@ -87,17 +102,18 @@ fn write(rows: &mut [Claimant], number: u32, own: Claimant)
 // One entry, on a table that is judged already: it costs the record of its caller and the one that this looks at.
 #[tactic(auto, unfolding(crate::specs::Entries::turn_in))]
 fn enter(rows: &mut [Claimant], terms: Terms, entry: Result<Call, Barred>) -> Turn
-    ensures { (rows.new ≡ written rows.old (caller_of entry) (turn_in terms entry rows.old).after) × (result ≡ turn_in terms entry rows.old) }
+    ensures { (rows.new ≡ written rows.old (caller_of entry) (turn_in terms entry rows.old).after)
+        × (result ≡ turn_in terms entry rows.old) }
 {
     let number = entries::caller_of(entry);
     let own = record_of(rows, number);
-    let looked = record_of(rows, entries::looked_at(own));
-    let turn = entries::turn(entry, board_of(rows, terms), own, looked);
+    let value = value_read(rows, own);
+    let turn = entries::turn(entry, board_of(rows, terms), own, value);
     write(rows, number, turn.after);
     turn
 }
 
-// All fields of all records 0.
+// All fields of all records 0. A refused table stays as it was.
 #[tactic(auto, unfolding(crate::specs::Runs::opening, rules::specs::Tables::opened))]
 pub fn open(rows: &mut [Claimant], terms: Terms) -> Result<(), Refusal>
     ensures { (rows.new ≡ opening terms rows.old) × (result ≡ open_refusal (length rows.old) terms) }
@@ -109,13 +125,15 @@ pub fn open(rows: &mut [Claimant], terms: Terms) -> Result<(), Refusal>
 
 // One call of any claimant number.
 pub fn call(rows: &mut [Claimant], terms: Terms, call: Call) -> Answer
-    ensures { (rows.new ≡ (called terms call rows.old).table) × (result ≡ (called terms call rows.old).answer) }
+    ensures { (rows.new ≡ (called terms call rows.old).table)
+        × (result ≡ (called terms call rows.old).answer) }
 {
     let entry = judged(rows, terms).admits(call);
     enter(rows, terms, entry).answer
 }
 
-// The entries in order, one answer byte each. The table is judged once.
+// The entries in order, one answer byte each. The table is judged once. By an index: with `zip` and `iter_mut`, which was tried, it
+// isn't known what the answers hold in the end.
 #[tactic(auto, unfolding(crate::specs::Schedules::ran, crate::specs::Schedules::answered), using(crate::proofs::Judging::run_sound))]
 pub fn run(
     rows: &mut [Claimant],
@@ -123,7 +141,9 @@ pub fn run(
     schedule: &[u32],
     answers: &mut [u8],
 ) -> Result<(), Refusal>
-    ensures { (rows.new ≡ (running terms schedule.now answers.old rows.old).rows) × (answers.new ≡ (running terms schedule.now answers.old rows.old).answers) × (result ≡ (running terms schedule.now answers.old rows.old).outcome) }
+    ensures { (rows.new ≡ (running terms schedule.now answers.old rows.old).rows)
+        × (answers.new ≡ (running terms schedule.now answers.old rows.old).answers)
+        × (result ≡ (running terms schedule.now answers.old rows.old).outcome) }
 {
     judged(rows, terms).runs(schedule.len(), answers.len())?;
     for (k, entry) in schedule.iter().enumerate() {
@@ -149,7 +169,9 @@ pub fn standing(rows: &[Claimant], terms: Terms, a: u32, b: u32) -> Result<i64, 
     Ok(first.stands(second))
 }
 
-// A run that leaves five numbers for each entry: the claimant's place, Session, Choosing and Token after it, and the answer.
+// A run that leaves five numbers for each entry: the claimant's place, Session, Choosing and Token after it, and the answer. By an
+// index: of `chunks_exact_mut`, as of `iter_mut`, it isn't known what the row holds in the end. The numbers lie in one flat row, since
+// that is what `trial` promises.
 #[tactic(auto, unfolding(crate::specs::Schedules::ran, crate::specs::Trials::traced))]
 fn trace(rows: &mut [Claimant], terms: Terms, schedule: &[u32], left: &mut [u32])
     requires sound { Sound (length rows.old) terms rows.old }
@@ -162,15 +184,17 @@ fn trace(rows: &mut [Claimant], terms: Terms, schedule: &[u32], left: &mut [u32]
     }
 }
 
-// A schedule run on a table of its own. It is what crates above call: they see no row of records.
-#[tactic(auto, unfolding(crate::specs::Trials::trial_left, crate::specs::Trials::trial_outcome))]
+// A schedule run on a table of its own. It is what crates above call: they see no row of records, and give the two numbers as C has
+// them. The records are part of an array, since a `Claimant` has no default that an `ArrayVec` could be filled with.
+#[tactic(auto, unfolding(crate::specs::Trials::trial_left, crate::specs::Trials::trial_outcome), using(crate::proofs::Trying::opened_part))]
 pub fn trial(
     claimants: u32,
     ceiling: u32,
     schedule: &[u32],
     left: &mut [u32],
 ) -> Result<(), Refusal>
-    ensures { (left.new ≡ trial_left claimants ceiling schedule.now left.old) × (result ≡ trial_outcome claimants ceiling schedule.now left.old) }
+    ensures { (left.new ≡ trial_left claimants ceiling schedule.now left.old)
+        × (result ≡ trial_outcome claimants ceiling schedule.now left.old) }
 {
     let terms = Terms { ceiling };
     let n = claimants as usize;

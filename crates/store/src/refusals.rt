@@ -9,7 +9,8 @@ use crate::Barred;
 use crate::entries::caller;
 use rules::{Board, Call, Refusal};
 
-// What was found of a table, once for a call or for a whole run: its size and terms, and the lowest broken record.
+// What was found of a table, once for a call or for a whole run: its size and terms, and the number of the lowest broken record, as
+// `lowest_broken` gives it.
 #[derive(Clone, Copy)]
 pub(crate) struct Judged {
     pub board: Board,
@@ -68,7 +69,7 @@ impl Judged {
     }
 }
 
-// 1, 2 and 10: a trial opens its table, so there is no 3. A fifth of the places for each entry, and nothing can overflow.
+// 1, 2 and 10: a trial opens its table, so there is no 3. Each entry wants five places; divided so, nothing can overflow.
 #[tactic(auto, unfolding(rules::specs::Tests::first, crate::specs::Trials::trial_refusal))]
 pub(crate) fn trial(board: Board, entries: usize, places: usize) -> Result<(), Refusal>
     ensures { result ≡ trial_refusal board.n board.terms entries places }

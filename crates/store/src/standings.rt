@@ -4,7 +4,7 @@ ghost use Rattle.store.specs.Standings.{opposed, stands};
 
 use rules::Claimant;
 
-// A claimant's number and its record.
+// A claimant's number and its record: what two claims are compared by.
 #[derive(Clone, Copy)]
 pub(crate) struct Claim {
     pub number: u32,
@@ -37,6 +37,7 @@ fn opposed(first: Claimant, second: Claimant) -> bool
         && rules::conflict(first.session as u32, second.session as u32)
 }
 
+// Signed: the difference of two numbers of 32 bits fits 64.
 fn difference(a: u32, b: u32) -> i64
     ensures { result ≡ pos a -ℤ pos b }
 {

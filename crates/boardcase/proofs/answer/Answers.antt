@@ -1,16 +1,15 @@
 -- What was printed lies within the row, and is what is printed of all that the reader had.
-use Rattle.std.proofs.Common.{◌∙◌, sym, length-take-le, arith, subst}
+use Rattle.std.proofs.Common.{◌∙◌, sym, arith, subst}
 use Rattle.std.specs.Io.KnownBytes.{Appends}
-use Rattle.casetext.proofs.Reports.{printed_within}
+use Rattle.casetext.proofs.Reports.{printed_inside, printed_part}
 use Rattle.boardcase.proofs.Reports.{printed_read, report_row_start, never_short}
 use Rattle.boardcase.proofs.answer.Goals as goal
 
 pub slice_bounds-out-end : goal.slice_bounds-out-end
-slice_bounds-out-end g c = rw c.report.auto.out (printed_within _ _ _ (sym c.report.ensures.0 ∙ c.in-Some.is))
+slice_bounds-out-end g c = printed_inside _ _ _ _ (sym c.report.ensures.0 ∙ c.in-Some.is) c.report.auto.out
 
 pub slice_bounds-write_all-end : goal.slice_bounds-write_all-end
-slice_bounds-write_all-end g c =
-    sym (length-take-le _ c.report.new.out (rw c.report.auto.out (printed_within _ _ _ (sym c.report.ensures.0 ∙ c.in-Some.is))))
+slice_bounds-write_all-end g c = printed_part _ _ _ _ (sym c.report.ensures.0 ∙ c.in-Some.is) c.report.auto.out
 
 pub returns-in_ok-write_all : goal.returns-in_ok-write_all
 returns-in_ok-write_all g c =

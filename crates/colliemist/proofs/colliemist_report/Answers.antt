@@ -1,4 +1,4 @@
--- What was printed is said as one number.
+-- Kept for the edit short_answers_1: a row that is too short counts 0.
 use Rattle.std.proofs.Common.{sym, ap, ◌∙◌}
 use Rattle.colliemist.specs.Count.{counted}
 use Rattle.colliemist.proofs.colliemist_report.Goals as goal

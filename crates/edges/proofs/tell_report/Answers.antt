@@ -1,11 +1,10 @@
 -- What was printed lies within the row.
-use Rattle.std.proofs.Common.{sym, ◌∙◌, length-take-le}
-use Rattle.casetext.proofs.Reports.{printed_within}
+use Rattle.std.proofs.Common.{sym, ◌∙◌}
+use Rattle.casetext.proofs.Reports.{printed_inside, printed_part}
 use Rattle.edges.proofs.tell_report.Goals as goal
 
 pub slice_bounds-out-end : goal.slice_bounds-out-end
-slice_bounds-out-end g c = rw c.report.auto.out (printed_within _ _ _ (sym c.report.ensures.0 ∙ c.in-Some.is))
+slice_bounds-out-end g c = printed_inside _ _ _ _ (sym c.report.ensures.0 ∙ c.in-Some.is) c.report.auto.out
 
 pub slice_bounds-tell_end-end : goal.slice_bounds-tell_end-end
-slice_bounds-tell_end-end g c =
-    sym (length-take-le _ c.report.new.out (rw c.report.auto.out (printed_within _ _ _ (sym c.report.ensures.0 ∙ c.in-Some.is))))
+slice_bounds-tell_end-end g c = printed_part _ _ _ _ (sym c.report.ensures.0 ∙ c.in-Some.is) c.report.auto.out

@@ -1,4 +1,4 @@
--- `lowest_broken` meets its contract: the number is the row's index and one.
+-- Kept for the edit lowest_counts_from_0: the number is the row's index and one.
 use Rattle.std.proofs.Common.{ℕ, ◌+◌, ap}
 use Rattle.std.specs.Prelude.{option_map}
 use Rattle.store.proofs.lowest_broken.Goals as goal

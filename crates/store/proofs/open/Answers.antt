@@ -1,4 +1,4 @@
--- `open` meets its contract where it is refused: the row is as it was.
+-- Kept for the edit open_refuses_all: where `open` is refused the row is as it was, and the refusal is its own.
 use Rattle.std.proofs.Common.{◌≡◌, sym, refl, length}
 use Rattle.std.specs.Prelude.{Err}
 use Rattle.std.proofs.lemmas.Result.{err_from_is_err_and}

@@ -25,14 +25,13 @@ loop-k-preserved c =
 pub returns-in_err-runs : goal.returns-in_err-runs
 returns-in_err-runs c =
     let p = err_from_is_err_and c.from_residual.result c.from_residual.ensures.1 in
-    let e = rw c.judged.ensures at c.in_err-runs.ensures in
-    rw (p.1, p.2, run_is c.args.terms c.args.schedule.now c.args.answers.now c.args.rows.now e) (refl, refl, refl)
+    let found = run_is c.args.terms c.args.schedule.now c.args.answers.now c.args.rows.now c.judged.ensures c.in_err-runs.ensures in
+    rw (p.1, p.2, found) (refl, refl, refl)
 
 pub returns : goal.returns
 returns c =
     let f = c.loop-k.invariant in
     let es = c.args.schedule.now in
     let all : c.loop-k.k ≡ length es = omega arith in
-    let e = rw c.judged.ensures at c.in_ok-runs.ensures in
-    rw (run_is c.args.terms es c.args.answers.now c.args.rows.now e)
+    rw (run_is c.args.terms es c.args.answers.now c.args.rows.now c.judged.ensures c.in_ok-runs.ensures)
     (f.rows ∙ rw (all, take-length es), sym (take-append-drop c.loop-k.k c.loop-k.answers) ∙ rw (f.front, f.rest, all, take-length es), refl)

@@ -1,7 +1,8 @@
 -- `casetext::reporting::put_refusal` meets its contract.
 use Rattle.std.proofs.Common.{◌∙◌, rules, refl}
 use Rattle.casetext.specs.Report.{refusal_text}
-use Rattle.casetext.proofs.Pens.{front_at, front_row, room_front, room_first, room_second, wrote_both}
+use Rattle.casetext.specs.Sinks.{room_first, room_second, wrote_both}
+use Rattle.casetext.proofs.Pens.{front_at, front_row, room_front}
 use Rattle.casetext.proofs.reporting.put_refusal.Goals as goal
 
 pub field-requires : goal.field-requires

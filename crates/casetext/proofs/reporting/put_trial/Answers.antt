@@ -1,25 +1,20 @@
 -- `casetext::reporting::put_trial` meets its contract: a trial's answer says which text is printed.
-use Rattle.std.proofs.Common.{ℕ, arith}
-use Rattle.std.proofs.lemmas.List.{length-replicate}
 use Rattle.casetext.proofs.Reports.{done_text, refused_text}
 use Rattle.casetext.proofs.reporting.put_trial.Goals as goal
 
 pub put_run-requires-clause-room : goal.put_run-requires-clause-room
 put_run-requires-clause-room g c =
-    let same = c.as_slice-entries.ensures.value in
-    rw same (rw (done_text _ _ _ _ (omega (arith, length-replicate {A = ℕ} g.row.N 0)) (rw same at c.trial.ensures) c.in-Ok.is) at c.requires.room)
+    rw (done_text _ _ _ c.as_slice-entries.ensures.value c.requires.five_each c.trial.ensures c.in-Ok.is) at c.requires.room
 
 pub put_refusal-requires-clause-room : goal.put_refusal-requires-clause-room
 put_refusal-requires-clause-room g c =
-    let same = c.as_slice-entries.ensures.value in
-    rw c.from.ensures (rw (refused_text _ _ _ _ (omega (arith, length-replicate {A = ℕ} g.row.N 0)) (rw same at c.trial.ensures) c.in-Err.is) at c.requires.room)
+    rw c.from.ensures
+    (rw (refused_text _ _ _ c.as_slice-entries.ensures.value c.requires.five_each c.trial.ensures c.in-Err.is) at c.requires.room)
 
 pub returns-in-Ok : goal.returns-in-Ok
-returns-in-Ok g c =
-    let same = c.as_slice-entries.ensures.value in
-    rw (done_text _ _ _ _ (omega (arith, length-replicate {A = ℕ} g.row.N 0)) (rw same at c.trial.ensures) c.in-Ok.is) (rw same at c.put_run.ensures)
+returns-in-Ok g c = rw (done_text _ _ _ c.as_slice-entries.ensures.value c.requires.five_each c.trial.ensures c.in-Ok.is) c.put_run.ensures
 
 pub returns-in-Err : goal.returns-in-Err
 returns-in-Err g c =
-    let same = c.as_slice-entries.ensures.value in
-    rw (refused_text _ _ _ _ (omega (arith, length-replicate {A = ℕ} g.row.N 0)) (rw same at c.trial.ensures) c.in-Err.is) (rw c.from.ensures at c.put_refusal.ensures)
+    rw (refused_text _ _ _ c.as_slice-entries.ensures.value c.requires.five_each c.trial.ensures c.in-Err.is)
+    (rw c.from.ensures at c.put_refusal.ensures)

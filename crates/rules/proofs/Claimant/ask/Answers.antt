@@ -1,4 +1,5 @@
--- `Claimant::ask` meets its contract: where nothing is refused, the want alone is written, at place 1.
+-- Kept for the edit ask_signs_too: the check finds this alone, but refuses the edit only at a limit.
+-- `Claimant::ask`: where nothing is refused, the want alone is written, at place 1.
 use mathlib.Core.Path.{sym, ◌∙◌}
 use Rattle.rules.specs.Rules.{asked, unless}
 use Rattle.rules.proofs.Claimant.ask.Goals as goal

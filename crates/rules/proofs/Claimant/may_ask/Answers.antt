@@ -1,4 +1,5 @@
--- `Claimant::may_ask` meets its contract: who asks from elsewhere than rest asks for a session all the same.
+-- Kept for the edit ask_refuses_6_before_5: the check finds this alone, but refuses the edit only at a limit.
+-- `Claimant::may_ask`: who asks from elsewhere than rest asks for a session all the same.
 use Prim.Native.Nat.{◌≤◌}
 use native.Mathlib.Omega.{arith}
 use borrow.Author.Rules.{rules}

@@ -1,4 +1,5 @@
--- `Claimant::may_leave` meets its contract: who may leave is inside.
+-- Kept for the edit leave_from_9: the check finds this alone, but refuses the edit only at a limit.
+-- `Claimant::may_leave`: who may leave is inside.
 use mathlib.Core.Path.{◌≡◌}
 use native.Mathlib.Omega.{arith}
 use borrow.Author.Rules.{rules}

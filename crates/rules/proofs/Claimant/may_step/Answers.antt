@@ -1,4 +1,5 @@
--- `Claimant::may_step` meets its contract: who may step is neither at rest nor inside.
+-- Kept for the edit step_inside: the check finds this alone, but refuses the edit only at a limit.
+-- `Claimant::may_step`: who may step is neither at rest nor inside.
 use mathlib.Core.Logic.{◌≢◌}
 use native.Mathlib.Omega.{arith}
 use borrow.Author.Rules.{rules}

@@ -1,4 +1,4 @@
--- `Claimant::reads` meets its contract: at 3 and 8 it reads a token.
+-- Kept for the edit scan_reads_session: at 3 and 8 `Claimant::reads` gives a token.
 use mathlib.Core.Path.{sym, ap, ◌∙◌}
 use mathlib.Core.Logic.{⊎_elim}
 use Rattle.rules.specs.Rules.{read_at, reads}

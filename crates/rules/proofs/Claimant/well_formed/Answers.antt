@@ -1,4 +1,5 @@
--- `Claimant::well_formed` meets its contract: a number past 12 has no row.
+-- Kept for the edit place_13_passes: the check finds this alone, but refuses the edit only at a limit.
+-- `Claimant::well_formed`: a number past 12 has no row.
 use mathlib.Core.Path.{sym, ap, ◌∙◌}
 use Rattle.rules.specs.declared.Place.{Place}
 use Rattle.rules.proofs.Places.{formed_at, well_formed_at}

@@ -3,8 +3,7 @@ use Rattle.std.proofs.Common.{◌≡◌, ◌+◌, ◌≤◌, drop}
 use Rattle.casetext.specs.Pieces.{digits_from}
 use Rattle.casetext.proofs.cursor.Cursor.digits.Given as goal
 
-abbrev pub invariant-loop-b : goal.invariant-loop-b
-invariant-loop-b l =
-    (l.next ≡ l.self.at + l.b-index)
-    × (l.value ≤ l.most)
-    × (digits_from l.most l.value l.next (drop l.b-index l.b-items) ≡ digits_from l.most 0 l.self.at l.b-items)
+abbrev pub invariant-loop-i : goal.invariant-loop-i
+invariant-loop-i l =
+    (l.value ≤ l.most)
+    × (digits_from l.most l.value (l.self.at + l.i) (drop l.i l.digits) ≡ digits_from l.most 0 l.self.at l.digits)

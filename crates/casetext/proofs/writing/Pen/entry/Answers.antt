@@ -1,7 +1,7 @@
 -- `casetext::writing::Pen::entry` meets its contract: its parts, one after the other.
 use Rattle.std.proofs.Common.{refl}
 use Rattle.casetext.specs.Report.{entry_text}
-use Rattle.casetext.proofs.Pens.{room_first, room_second, wrote_both}
+use Rattle.casetext.specs.Sinks.{room_first, room_second, wrote_both}
 use Rattle.casetext.proofs.writing.Pen.entry.Goals as goal
 
 pub field-requires : goal.field-requires

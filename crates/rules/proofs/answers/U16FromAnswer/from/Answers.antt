@@ -1,4 +1,4 @@
--- `u16::from(Answer)` meets its contract: 32 stands before a refusal's number.
+-- Kept for the edit refused_answers_31_and_r: 32 stands before a refusal's number.
 use mathlib.Core.Path.{sym, ap, ◌∙◌}
 use Prim.Native.Nat.{ℕ, ◌+◌}
 use Rattle.rules.specs.Answers.{number_of}
