@@ -29,7 +29,7 @@ fn read_full<R: Read>(input: &mut R, row: &mut [u8]) -> io::Result<usize>
 
 // Reads a case text and writes what came of it. Where the reader's bytes and the writer's are known, the writer has then what is
 // printed of all that the reader had. The row has a byte more than a text may have, so that one that is too long is seen to be. Both
-// are rows, since `report` is lent rows, as from C.
+// are rows: `read_full` fills one, and `report` is lent one, as from C.
 fn answer<R: Read, W: Write>(input: &mut R, output: &mut W) -> io::Result<()>
     ensures { OnOk result (IfSome (R.remaining input.old)
         (λ text. Appends (W.contents output.old) (W.contents output.new) (printed text))) }

@@ -5,11 +5,10 @@ ghost use Rattle.casetext.specs.Writing.{Room, Wrote, Filled};
 ghost use Rattle.casetext.specs.Reading.Said.{accepted};
 ghost use Rattle.casetext.specs.Report.{entry_text, refusal_text, run_text, said_text, reported, report_row};
 
-use crate::Case;
 use crate::reader::{Draft, drafted};
 use crate::sinks::Sink;
 use crate::writing::Pen;
-use rules::Refusal;
+use crate::{Case, Fault};
 
 impl Pen<'_> {
     // A do line's report. `left` begins with the five numbers that its entry left, as `store::trial` leaves them in one flat row.
@@ -29,7 +28,8 @@ impl Pen<'_> {
     }
 }
 
-// The do lines' reports and the last line. Each entry left five numbers.
+// The do lines' reports and the last line. Each entry left five numbers, in the one flat row that `trial` fills; its own number, and how
+// many there are, are printed from 32 bits.
 fn put_run(out: &mut [u8], entries: &[u32], left: &[u32]) -> usize
     requires few_entries { length entries.now ≤ 2048 }
     requires five_each { 5 * length entries.now ≤ length left.now }
@@ -45,14 +45,14 @@ fn put_run(out: &mut [u8], entries: &[u32], left: &[u32]) -> usize
 }
 
 // The one line of a text or an opening that is refused.
-fn put_refusal(out: &mut [u8], refusal: Refusal, line: usize) -> usize
-    requires line_bound { line ≤ 2051 }
-    requires room { length (refusal_text (refusal_number refusal) line) ≤ length out.old }
-    ensures { Filled out.old (refusal_text (refusal_number refusal) line) result out.new }
+fn put_refusal(out: &mut [u8], fault: Fault) -> usize
+    requires line_bound { fault.line ≤ 2051 }
+    requires room { length (refusal_text (refusal_number fault.refusal) fault.line) ≤ length out.old }
+    ensures { Filled out.old (refusal_text (refusal_number fault.refusal) fault.line) result out.new }
 {
     let mut pen = Pen::new(out);
-    pen.field(b"refused=", u8::from(refusal) as u32);
-    pen.line(b" line=", line as u32);
+    pen.field(b"refused=", u8::from(fault.refusal) as u32);
+    pen.line(b" line=", fault.line as u32);
     pen.written()
 }
 
@@ -67,7 +67,8 @@ fn put_trial<const N: usize>(out: &mut [u8], case: Case, entries: &Draft) -> usi
     let mut left = [0u32; N];
     match store::trial(case.claimants, case.ceiling, entries, &mut left) {
         Ok(()) => put_run(out, entries, &left),
-        Err(refusal) => put_refusal(out, refusal, u8::from(refusal) as usize),
+        // Refusal 1 of the opening is of line 1, and 2 of line 2.
+        Err(refusal) => put_refusal(out, Fault::at(refusal, u8::from(refusal) as usize)),
     }
 }
 
@@ -95,7 +96,7 @@ pub fn report(text: &[u8], out: &mut [u8]) -> Option<usize>
     let mut draft = Draft::new();
     let bytes = match drafted(text, &mut draft) {
         Ok(case) => put_case(out, case, &draft),
-        Err(fault) => put_refusal(out, fault.refusal, fault.line),
+        Err(fault) => put_refusal(out, fault),
     };
     Some(bytes)
 }

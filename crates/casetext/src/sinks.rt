@@ -1,4 +1,5 @@
-// What a text goes into, piece by piece: a pen writes it, and a count adds up how long it is.
+// What a text goes into, piece by piece: a pen writes it, and a count adds up how long it is. Each piece asks for room for its own text.
+// By methods, and by no `write!`, which was tried: a report's line took 462 instructions by it, and 127 by a pen.
 ghost use Rattle.std.specs.Prelude.{◌≡◌, List, ℕ};
 ghost use Rattle.casetext.specs.Numerals.{numeral};
 ghost use Rattle.casetext.specs.Layout.{field_text, line_text};

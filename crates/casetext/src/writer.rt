@@ -44,7 +44,7 @@ fn do_line<S: Sink>(sink: &mut S, call: Call)
     sink.word(b"\n");
 }
 
-// The text of a case, none of whose entries is barred.
+// The text of a case, none of whose entries is barred: a barred one has no line.
 fn case<S: Sink>(sink: &mut S, claimants: u32, ceiling: u32, schedule: &[u32])
     requires none_barred { some_nine schedule.now ≡ false }
     requires room { S.room sink.old (schedule_text claimants ceiling schedule.now) }
@@ -60,7 +60,7 @@ fn case<S: Sink>(sink: &mut S, claimants: u32, ceiling: u32, schedule: &[u32])
 }
 
 // Writes the case text of a schedule into the first bytes of a lent row, whose later bytes stay. A refused schedule leaves the row
-// as it was, so all that is refused is known before the first byte is written.
+// as it was, so all that is refused is known before the first byte is written. The two numbers are given as C has them.
 pub fn write(
     claimants: u32,
     ceiling: u32,

@@ -1,4 +1,5 @@
-// What a caller in C or Rust gets of a case text, in plain numbers: it is read, written and reported. `colliemist_c` has the C symbols.
+// What a caller in C or Rust gets of a case text, in plain numbers: it is read, written and reported. `colliemist_c` has the C symbols,
+// since a crate is a library or a static library and not both.
 #![tactic(auto)]
 
 ghost use Rattle.std.specs.Prelude.{◌≡◌, ◌≤◌, pos, neg_ℤ};
@@ -19,7 +20,7 @@ fn count(n: usize) -> i64
     n as i64
 }
 
-// A refusal, which no count looks like.
+// A refusal as C has it: minus its number, which no count looks like. A cast of a line.
 fn minus(refusal: Refusal) -> i64
     ensures { result ≡ neg_ℤ (pos (refusal_number refusal)) }
 {

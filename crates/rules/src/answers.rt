@@ -37,6 +37,8 @@ impl From<Refusal> for u8 {
     }
 }
 
+// 01's number of any answer that can be made; what CONTRACTS has of a number and of a byte are two promises, and the byte is made of
+// the number.
 impl From<Answer> for u16 {
     ghost from_gives = { λ a n. n ≡ number_of a };
 

@@ -65,7 +65,7 @@ pub enum Call {
     Leave { who: u32 },
 }
 
-// 01's list of refusals, under its numbers.
+// 01's list of refusals, under its numbers. No `Display`: what is printed and answered is the number.
 #[derive(Clone, Copy, Debug, PartialEq, Eq)]
 pub enum Refusal {
     RowCount = 1,

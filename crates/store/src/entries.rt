@@ -7,9 +7,8 @@ ghost use Rattle.store.specs.Schedules.{decoded};
 use crate::Barred;
 use rules::{Answer, Board, Call, Claimant, Refusal, Turn};
 
-// A 32-bit number: kind × 16,777,216 + claimant × 65,536 + session. Kind 0 is step, 1 ask, 2 leave; only an ask has a session. 01 has it
-// decoded by division and remainder. No
-// `TryFrom`: a `Call` is of `rules`, where nothing is known of schedules.
+// A 32-bit number: kind × 16,777,216 + claimant × 65,536 + session, which 01 has decoded by division and remainder. Kind 0 is step,
+// 1 ask, 2 leave; only an ask has a session. No `TryFrom`: a `Call` is of `rules`, where nothing is known of schedules.
 #[tactic(auto, unfolding(crate::specs::Schedules::decoded))]
 pub fn decoded(entry: u32) -> Result<Call, Barred>
     ensures { result ≡ decoded entry }

@@ -1,6 +1,6 @@
 // The table, lent as a row of claimant records: open, call, run and standing. What decides is in functions by value
 // (`entries`, `refusals`, `standings`, `traces`); a function over the row reads a record, calls those, and writes it back. 01 lends the
-// rows and gives the terms with each call, so they are two parameters.
+// rows and gives the terms with each call, so they are two parameters. A public contract is one equation for the result and all lent.
 #![tactic(auto)]
 
 ghost use Rattle.std.specs.Prelude.{◌≡◌, ◌*◌, ◌≤◌, ◌++◌, length, drop};
@@ -133,7 +133,7 @@ pub fn call(rows: &mut [Claimant], terms: Terms, call: Call) -> Answer
 }
 
 // The entries in order, one answer byte each. The table is judged once. By an index: with `zip` and `iter_mut`, which was tried, it
-// isn't known what the answers hold in the end.
+// isn't known what the answers hold in the end. `trace` goes the same way, and leaves other things in another row.
 #[tactic(auto, unfolding(crate::specs::Schedules::ran, crate::specs::Schedules::answered), using(crate::proofs::Judging::run_sound))]
 pub fn run(
     rows: &mut [Claimant],
@@ -185,7 +185,7 @@ fn trace(rows: &mut [Claimant], terms: Terms, schedule: &[u32], left: &mut [u32]
 }
 
 // A schedule run on a table of its own. It is what crates above call: they see no row of records, and give the two numbers as C has
-// them. The records are part of an array, since a `Claimant` has no default that an `ArrayVec` could be filled with.
+// them. The records are the first of an array of 64 blank ones, as many as a table can have.
 #[tactic(auto, unfolding(crate::specs::Trials::trial_left, crate::specs::Trials::trial_outcome), using(crate::proofs::Trying::opened_part))]
 pub fn trial(
     claimants: u32,

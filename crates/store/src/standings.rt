@@ -37,7 +37,7 @@ fn opposed(first: Claimant, second: Claimant) -> bool
         && rules::conflict(first.session as u32, second.session as u32)
 }
 
-// Signed: the difference of two numbers of 32 bits fits 64.
+// Signed: the difference of two numbers of 32 bits fits 64. A cast of a line, for tokens and for numbers.
 fn difference(a: u32, b: u32) -> i64
     ensures { result ≡ pos a -ℤ pos b }
 {

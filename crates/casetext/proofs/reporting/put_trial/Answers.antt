@@ -8,7 +8,7 @@ put_run-requires-clause-room g c =
 
 pub put_refusal-requires-clause-room : goal.put_refusal-requires-clause-room
 put_refusal-requires-clause-room g c =
-    rw c.from.ensures
+    rw (c.at.ensures, c.from.ensures)
     (rw (refused_text _ _ _ c.as_slice-entries.ensures.value c.requires.five_each c.trial.ensures c.in-Err.is) at c.requires.room)
 
 pub returns-in-Ok : goal.returns-in-Ok
@@ -17,4 +17,4 @@ returns-in-Ok g c = rw (done_text _ _ _ c.as_slice-entries.ensures.value c.requi
 pub returns-in-Err : goal.returns-in-Err
 returns-in-Err g c =
     rw (refused_text _ _ _ c.as_slice-entries.ensures.value c.requires.five_each c.trial.ensures c.in-Err.is)
-    (rw c.from.ensures at c.put_refusal.ensures)
+    (rw (c.at.ensures, c.from.ensures) at c.put_refusal.ensures)
