@@ -1,5 +1,5 @@
 // The lines of a case text, each read at a place.
-ghost use Rattle.std.specs.Prelude.{◌≡◌, ◌≤◌};
+ghost use Rattle.std.specs.Prelude.{◌≡◌};
 ghost use Rattle.casetext.specs.Lines.{ended_at, line_at, called_at, ask_at, turn_at, do_line_at};
 
 use crate::cursor::{Cursor, Found};

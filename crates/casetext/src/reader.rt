@@ -11,8 +11,8 @@ use rules::Refusal;
 // Room for the entries of one case.
 pub(crate) type Draft = ArrayVec<u32, 2048>;
 
-// The do lines from a place on, of a case with these two numbers: their entries go into a draft. Read at a
-// place, as the definitions do, each byte once, and not cut into lines first. The draft is lent, since 8 KB would be moved as a result.
+// The do lines from a place on, of a case with these two numbers: their entries go into a draft. Read at a place, as the
+// definitions do, each byte once, and not cut into lines first. The draft is lent, since 8 KB would be moved as a result.
 #[tactic(auto, using(crate::proofs::Gathering::gathering))]
 fn do_lines(lines: Cursor, claimants: u32, ceiling: u32, draft: &mut Draft) -> Result<Case, Fault>
     requires { draft.old.items ≡ [] }

@@ -29,10 +29,11 @@ abbrev pub ◌when◌ : Refusal → Bool → Listed
 ◌when◌ r b = record { refusal = r; given = b }
 
 infix 70 ◌when◌
--- The first refusal that is given decides; where none is, all is well.
+-- All is well, or a refusal.
 abbrev pub Verdict : Type 0
 Verdict = Result (Unit {0}) Refusal
 
+-- The first refusal that is given decides; where none is, all is well.
 unfoldable pub first : List Listed → Verdict
 first [] = Ok tt
 first (r ∷ rs) = pick r.given (Err r.refusal) (first rs)

@@ -8,7 +8,7 @@ ghost use Rattle.rules.specs.Rules.{reached, passed, signed, raised, scanned, ta
 use crate::order::{before, conflict};
 use crate::{Answer, Board, Claimant, Place, Turn};
 
-// What a step looks at its own record alone for.
+// The steps that look at their own record alone.
 impl Claimant {
     // An accepted call answers the place reached.
     pub(crate) fn reached(self) -> Turn
