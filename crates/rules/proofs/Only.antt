@@ -22,14 +22,24 @@ use Rattle.rules.proofs.Register.row.Kinds as register_row_kinds
 use Rattle.rules.proofs.Register.row.Reads as register_row_reads
 use Rattle.rules.proofs.Register.value.Kinds as register_value_kinds
 use Rattle.rules.proofs.Register.value.Reads as register_value_reads
+use Rattle.rules.proofs.Register.row_of.Kinds as register_row_of_kinds
+use Rattle.rules.proofs.Register.row_of.Reads as register_row_of_reads
+use Rattle.rules.proofs.Register.value_of.Kinds as register_value_of_kinds
+use Rattle.rules.proofs.Register.value_of.Reads as register_value_of_reads
 use Rattle.rules.proofs.Board.opens.Kinds as board_opens_kinds
 use Rattle.rules.proofs.Board.opens.Reads as board_opens_reads
+use Rattle.rules.proofs.Board.refusal.Kinds as board_refusal_kinds
+use Rattle.rules.proofs.Board.refusal.Reads as board_refusal_reads
 use Rattle.rules.proofs.order.conflict.Kinds as conflict_kinds
 use Rattle.rules.proofs.order.conflict.Reads as conflict_reads
 use Rattle.rules.proofs.answers.PlaceFromU8.from.Kinds as place_from_u8_kinds
 use Rattle.rules.proofs.answers.PlaceFromU8.from.Reads as place_from_u8_reads
 use Rattle.rules.proofs.answers.U8FromRefusal.from.Kinds as u8_from_refusal_kinds
 use Rattle.rules.proofs.answers.U8FromRefusal.from.Reads as u8_from_refusal_reads
+use Rattle.rules.proofs.Answer.refused_number.Kinds as answer_refused_number_kinds
+use Rattle.rules.proofs.Answer.refused_number.Reads as answer_refused_number_reads
+use Rattle.rules.proofs.Answer.number_byte.Kinds as answer_number_byte_kinds
+use Rattle.rules.proofs.Answer.number_byte.Reads as answer_number_byte_reads
 use Rattle.rules.proofs.answers.U16FromAnswer.from.Kinds as u16_from_answer_kinds
 use Rattle.rules.proofs.answers.U16FromAnswer.from.Reads as u16_from_answer_reads
 use Rattle.rules.proofs.answers.U8FromAnswer.from.Kinds as u8_from_answer_kinds
@@ -69,8 +79,17 @@ only_register_row κs a x y s t p q = same p q
 pub only_register_value : Only 0 register_value_kinds.ps register_value_kinds.r register_value_reads.Post
 only_register_value κs a x y s t p q = same p q
 
+pub only_register_row_of : Only 0 register_row_of_kinds.ps register_row_of_kinds.r register_row_of_reads.Post
+only_register_row_of κs a x y s t p q = same p q
+
+pub only_register_value_of : Only 0 register_value_of_kinds.ps register_value_of_kinds.r register_value_of_reads.Post
+only_register_value_of κs a x y s t p q = same p q
+
 pub only_board_opens : Only 0 board_opens_kinds.ps board_opens_kinds.r board_opens_reads.Post
 only_board_opens κs a x y s t p q = same p q
+
+pub only_board_refusal : Only 0 board_refusal_kinds.ps board_refusal_kinds.r board_refusal_reads.Post
+only_board_refusal κs a x y s t p q = same p q
 
 pub only_conflict : Only 0 conflict_kinds.ps conflict_kinds.r conflict_reads.Post
 only_conflict κs a x y s t p q = same p q
@@ -80,6 +99,12 @@ only_place_from_u8 κs a x y s t p q = same p q
 
 pub only_u8_from_refusal : Only 0 u8_from_refusal_kinds.ps u8_from_refusal_kinds.r u8_from_refusal_reads.Post
 only_u8_from_refusal κs a x y s t p q = same p q
+
+pub only_answer_refused_number : Only 0 answer_refused_number_kinds.ps answer_refused_number_kinds.r answer_refused_number_reads.Post
+only_answer_refused_number κs a x y s t p q = same p q
+
+pub only_answer_number_byte : Only 0 answer_number_byte_kinds.ps answer_number_byte_kinds.r answer_number_byte_reads.Post
+only_answer_number_byte κs a x y s t p q = same p q
 
 pub only_u16_from_answer : Only 0 u16_from_answer_kinds.ps u16_from_answer_kinds.r u16_from_answer_reads.Post
 only_u16_from_answer κs a x y s t p q = same p q

@@ -1,5 +1,5 @@
 // 01's numbers: of a place, a refusal and an answer.
-ghost use Rattle.std.specs.Prelude.{◌≡◌};
+ghost use Rattle.std.specs.Prelude.{◌≡◌, ◌+◌, ◌%◌};
 ghost use Rattle.rules.specs.Places.{place_at};
 ghost use Rattle.rules.specs.Answers.{refusal_number, number_of, byte_of};
 
@@ -37,6 +37,22 @@ impl From<Refusal> for u8 {
     }
 }
 
+impl Answer {
+    // 01's number of an answer that refuses with this number, also with one that no call gives: of 255 it is 287, so it has 16 bits.
+    pub fn refused_number(refusal: u8) -> u16
+        ensures { result ≡ 32 + refusal }
+    {
+        32 + refusal as u16
+    }
+
+    // The answer byte of a number, which is its remainder.
+    pub fn number_byte(number: u16) -> u8
+        ensures { result ≡ number % 256 }
+    {
+        (number % 256) as u8
+    }
+}
+
 // 01's number of any answer that can be made; what CONTRACTS has of a number and of a byte are two promises, and the byte is made of
 // the number.
 impl From<Answer> for u16 {
@@ -46,7 +62,7 @@ impl From<Answer> for u16 {
         match answer {
             Answer::Reached(place) => place as u16,
             Answer::TurnedAway => 31,
-            Answer::Refused(refusal) => 32 + u8::from(refusal) as u16,
+            Answer::Refused(refusal) => Answer::refused_number(u8::from(refusal)),
         }
     }
 }
@@ -56,6 +72,6 @@ impl From<Answer> for u8 {
     ghost from_gives = { λ a n. n ≡ byte_of a };
 
     fn from(answer: Answer) -> u8 {
-        (u16::from(answer) % 256) as u8
+        Answer::number_byte(u16::from(answer))
     }
 }

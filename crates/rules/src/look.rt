@@ -41,6 +41,20 @@ impl Register {
         }
     }
 
+    // The row of what a claimant reads; 0 where it reads nothing.
+    pub fn row_of(read: Option<Register>) -> u8
+        ensures { result ≡ row_read read }
+    {
+        read.map_or(0, |register| register.row())
+    }
+
+    // The value of what a claimant reads; 0 where it reads nothing.
+    pub fn value_of(read: Option<Register>, looked: Claimant) -> u32
+        ensures { result ≡ value_in read looked }
+    {
+        read.map_or(0, |register| register.value(looked))
+    }
+
     // Whether such a register can hold the value.
     pub(crate) fn holds(self, terms: Terms, value: u32) -> bool
         ensures { result ≡ holds (Some self) terms value }

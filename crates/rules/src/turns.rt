@@ -1,6 +1,7 @@
 // The three calls on a claimant's record. Each refuses by 01's list, and a refused record comes back as it was.
 ghost use Rattle.std.specs.Prelude.{◌≡◌, not, []};
-ghost use Rattle.rules.specs.Tests.{first};
+ghost use Rattle.rules.specs.Tests.{first, by_verdict};
+ghost use Rattle.rules.specs.Answers.{refusal_number};
 ghost use Rattle.rules.specs.Rules.{reads, holds, open_refusals, refusals, refused, ask_refusals, asked, step_refusals, step_taken, leave_refusals, left};
 
 use crate::steps::Stepping;
@@ -19,6 +20,16 @@ impl Board {
             return Err(Refusal::NoCeiling);
         }
         Ok(())
+    }
+
+    // The number of the one that `opens` gives, or else the number handed in.
+    pub fn refusal(self, otherwise: u8) -> u8
+        ensures { result ≡ by_verdict (first (open_refusals self.n self.terms)) otherwise refusal_number }
+    {
+        match self.opens() {
+            Ok(()) => otherwise,
+            Err(refusal) => u8::from(refusal),
+        }
     }
 
     // Those, `Broken` and `NoClaimant`, which every call gives before its own. `sound` is what was found of the record.

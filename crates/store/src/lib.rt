@@ -17,7 +17,7 @@ mod traces;
 
 pub use entries::decoded;
 use refusals::Judged;
-use rules::{Answer, Board, Call, Claimant, Refusal, Terms, Turn};
+use rules::{Answer, Board, Call, Claimant, Refusal, Register, Terms, Turn};
 use standings::Claim;
 
 // An entry that makes no call, or a call that its table bars: whom it names, and the refusal.
@@ -80,10 +80,8 @@ fn record_of(rows: &[Claimant], number: u32) -> Claimant
 fn value_read(rows: &[Claimant], own: Claimant) -> u32
     ensures { result ≡ value_read rows.now own }
 {
-    match own.reads() {
-        Some(register) => register.value(record_of(rows, register.row() as u32)),
-        None => 0,
-    }
+    let read = own.reads();
+    Register::value_of(read, record_of(rows, Register::row_of(read) as u32))
 }
 
 // The record of claimant `number` is written; nothing is where there is no such claimant. By an index: after a write through
