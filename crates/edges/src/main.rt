@@ -73,19 +73,20 @@ const SITUATIONS: [Situation; 6] = [
 ];
 
 impl Situation {
-    // The text, for which there is room.
-    fn text(&self) -> io::Result<Text> {
-        let mut text = Text::new();
+    // Writes the text, for which there is room. The room is lent, since 32 KB would be moved as a result.
+    fn fill(&self, text: &mut Text) -> io::Result<()> {
         text.write_all(self.head)?;
         for _ in 0..self.times {
             text.write_all(self.line)?;
         }
-        text.write_all(self.tail)?;
-        Ok(text)
+        text.write_all(self.tail)
     }
 
+    // A call of its own: taken into `main`, its rows would lie on the stack beside those of `tell_written`, 40 KB of them.
+    #[inline(never)]
     fn tell(&self, rt: &impl Print) -> io::Result<()> {
-        let text = self.text()?;
+        let mut text = Text::new();
+        self.fill(&mut text)?;
         print!(rt; "{}: bytes={}", self.name, text.len())?;
         tell_reading(rt, &text)?;
         tell_report(rt, &text)
