@@ -8,10 +8,13 @@ pub(crate) struct Count {
     pub(crate) bytes: usize,
 }
 
-// How many digits a number has.
+// How many digits a number has. Most have one, for which a test costs less than the logarithm.
 pub(crate) fn digits(n: u32) -> usize
     ensures value { result ≡ length (numeral n) }
     ensures upper_bound { result ≤ 10 }
 {
-    n.max(1).ilog10() as usize + 1
+    if n < 10 {
+        return 1;
+    }
+    n.ilog10() as usize + 1
 }

@@ -80,7 +80,8 @@ const INSIDE: Row = Row {
 
 impl Row {
     // Whether each field of the record is of its kind. Set, Session is the want, Choosing 1, and each other from 1 on. Where the row is known,
-    // each kind's test is too, so that a place's check is straight code: hence `inline`.
+    // each kind's test is too, so that a place's check is straight code: hence `inline`. `&`, and fields of one width side by side:
+    // where both are to be 0, the two are tested as one. With `&&` the check of a record at rest costs a quarter more.
     #[inline(always)]
     #[tactic(auto, unfolding(crate::specs::Places::fits))]
     fn fits(self, board: Board, c: Claimant) -> bool
@@ -89,11 +90,11 @@ impl Row {
         let want = c.want as u64;
         let ceiling = board.terms.ceiling as u64;
         self.session.allows(want, want, c.session as u64)
-            && self.want.allows(1, 65535, want)
-            && self.choosing.allows(1, 1, c.choosing as u64)
-            && self.token.allows(1, ceiling, c.token as u64)
-            && self.other.allows(1, board.n as u64, c.other as u64)
-            && self.seen.allows(1, ceiling, c.seen as u64)
+            & self.want.allows(1, 65535, want)
+            & self.choosing.allows(1, 1, c.choosing as u64)
+            & self.other.allows(1, board.n as u64, c.other as u64)
+            & self.token.allows(1, ceiling, c.token as u64)
+            & self.seen.allows(1, ceiling, c.seen as u64)
     }
 }
 

@@ -15,8 +15,12 @@ pub fn decoded(entry: u32) -> Result<Call, Barred>
 {
     let who = entry / 65536 % 256;
     let session = (entry % 65536) as u16;
-    match entry / 16777216 {
-        0 if session == 0 => Ok(Call::Step { who }),
+    let kind = entry / 16777216;
+    // Most entries are steps, so one is looked for first; in one match the compiler tests for it last.
+    if kind == 0 && session == 0 {
+        return Ok(Call::Step { who });
+    }
+    match kind {
         1 => Ok(Call::Ask { who, session }),
         2 if session == 0 => Ok(Call::Leave { who }),
         _ => Err(Barred {

@@ -1,7 +1,10 @@
 -- `casetext::sizes::digits` meets its contract.
-use Rattle.std.proofs.Common.{arith}
-use Rattle.casetext.proofs.Measures.{size_by_log}
+use Rattle.std.proofs.Common.{sym, arith}
+use Rattle.casetext.proofs.Measures.{size_one, size_by_log}
 use Rattle.casetext.proofs.sizes.digits.Goals as goal
+
+pub returns-then-n-lt10-clause-value : goal.returns-then-n-lt10-clause-value
+returns-then-n-lt10-clause-value c = sym (size_one _ (omega arith))
 
 pub returns-clause-value : goal.returns-clause-value
 returns-clause-value c =
