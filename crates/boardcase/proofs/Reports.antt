@@ -28,6 +28,10 @@ module _ (P : List ℕ → Type 0) where
       let h = ltb-false n (length row) t in
       subst P (printed_long (take n row) text (omega arith) (omega (arith, ap length taken, length-append (take n row) rest))) p)
 
+  -- As many bytes were reported as were read.
+  pub reported_read : {m n : ℕ} (row : List ℕ) → P (printed (take m row)) → m ≡ n → P (printed (take n row))
+  reported_read row p e = rw (← e) p
+
 -- A row that every report fits takes what is printed, at its start.
 module _ (row s : List ℕ) (long : 153609 ≤ length row) where
   pub never_short : reported row s ≡ None → ⊥

@@ -68,6 +68,7 @@ pub fn read(text: &[u8], entries: &mut [u32]) -> Result<Case, Fault>
     }
     let mut draft = Draft::new();
     let case = drafted(text, &mut draft)?;
-    entries[..draft.len()].copy_from_slice(draft.as_slice());
+    let count = draft.len();
+    entries[..count].copy_from_slice(&draft.as_slice()[..count]);
     Ok(case)
 }

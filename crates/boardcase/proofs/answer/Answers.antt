@@ -2,7 +2,7 @@
 use Rattle.std.proofs.Common.{◌∙◌, sym, arith, subst}
 use Rattle.std.specs.Io.KnownBytes.{Appends}
 use Rattle.casetext.proofs.Reports.{printed_inside, printed_part}
-use Rattle.boardcase.proofs.Reports.{printed_read, report_row_start, never_short}
+use Rattle.boardcase.proofs.Reports.{printed_read, reported_read, report_row_start, never_short}
 use Rattle.boardcase.proofs.answer.Goals as goal
 
 pub slice_bounds-out-end : goal.slice_bounds-out-end
@@ -17,7 +17,7 @@ returns-in_ok-write_all g c =
     let read = c.in_ok-length.ensures in
     let report = report_row_start _ _ (omega arith) (sym c.report.ensures.0 ∙ c.in-Some.is) c.report.ensures.1 in
     printed_read written _ _ c.read_full.new.row _ (omega arith) read.within read.taken read.ended
-    (subst written report c.in_ok-write_all.ensures.bytes)
+    (reported_read written _ (subst written report c.in_ok-write_all.ensures.bytes) (omega (arith, read.within)))
 
 pub returns-in_default : goal.returns-in_default
 returns-in_default g c = absurd (never_short _ _ (omega arith) (sym c.report.ensures.0 ∙ c.in_default.is))
