@@ -6,11 +6,12 @@ use mathlib.Core.Path.{◌≡◌, refl}
 use mathlib.Core.List.{List, [], ◌∷◌, ◌++◌, append-nil, append_assoc}
 use lib.ListN.{length, length-append}
 use borrow.Author.Tests.{le-leb, lt-leb, le-ltb}
-use Rattle.std.specs.Prelude.{None, Some}
+use Rattle.std.specs.Prelude.{None, Some, Err}
 use Rattle.rules.specs.declared.Refusal.TheVariants.{BadLine, TooManyLines}
+use Rattle.casetext.specs.declared.Fault.{Fault}
 use Rattle.casetext.specs.declared.cursor.Found.{Found}
 use Rattle.casetext.specs.Lines.{do_line_at}
-use Rattle.casetext.specs.Reading.{Said, before, onward, do_lines, reading, read_into}
+use Rattle.casetext.specs.Reading.{Said, before, onward, do_lines, reading, read_into, told, row_after}
 use Rattle.casetext.specs.Reading.Said.{accepted, refused}
 
 -- One turn of the do lines, by what is found.
@@ -81,6 +82,12 @@ module _ {n k : ℕ} {s : List ℕ} {from : ℕ} {draft : List ℕ} {at : ℕ} (
   pub gathering_end : length s ≤ at → do_lines n k 2048 s from 3 ≡ accepted n k draft
   unfolding before
   gathering_end h = rw (← g.rest, lines_end n k s at (length draft + 3) (2048 - length draft) h, append-nil)
+
+-- A refused text leaves the row as it was.
+pub told_refused : (r : Said) {f : Fault} (held : List ℕ) → told r ≡ Err f → held ≡ row_after r held
+unfolding told row_after
+told_refused (accepted n k es) held e = cc
+told_refused (refused q line) held e = refl
 
 pub ruleset gathering = (gathering_start, gathering_broken, gathering_full, gathering_more, gathering_end)
 

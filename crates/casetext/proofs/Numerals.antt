@@ -78,12 +78,12 @@ abbrev pub NoDigit : List ℕ → Type 0
 NoDigit l = is_ascii_digit (get_or l 0 0) ≡ false
 
 -- one digit read
-digit_read : (most v at b : ℕ) (l : List ℕ) → is_ascii_digit b ≡ true → v * 10 + (b - 48) ≤ most
+pub digit_read : (most v at b : ℕ) (l : List ℕ) → is_ascii_digit b ≡ true → v * 10 + (b - 48) ≤ most
     → digits_from most v at (b ∷ l) ≡ digits_from most (v * 10 + (b - 48)) (suc at) l
 unfolding digits_from
 digit_read most v at b l d h = rw (d, le-leb _ _ h)
 
-digits_over : (most v at : ℕ) (l : List ℕ) → NoDigit l → digits_from most v at l ≡ found v at
+pub digits_over : (most v at : ℕ) (l : List ℕ) → NoDigit l → digits_from most v at l ≡ found v at
 unfolding digits_from
 digits_over most v at [] d = refl
 digits_over most v at (b ∷ l) d = rw d

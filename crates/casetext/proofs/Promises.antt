@@ -35,6 +35,10 @@ use Rattle.casetext.proofs.Turns.{line_found, line_stands, do_found, do_stands}
 use Rattle.casetext.proofs.Texts.{inside, calls_read, Run, run}
 use Rattle.casetext.proofs.Texts.Run.{whole, bad, many as too_many}
 
+-- A reading is of one kind only.
+pub not_refused {ℓ} : {A : Type ℓ} {n k line : ℕ} {r : Refusal} {es : List ℕ} → accepted n k es ≡ refused r line → A
+not_refused e = cc
+
 -- Where no line fits, none is found.
 no_line : (w : List ℕ) (s : List ℕ) (at : ℕ) → NoNumberLine w (drop at s) → line_at w 4294967295 s at ≡ None
 no_line w s at h =

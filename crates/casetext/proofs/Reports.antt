@@ -5,7 +5,7 @@ use native.Mathlib.Omega.{arith}
 use mathlib.Core.Path.{◌≡◌, refl, sym, ap, ◌∙◌}
 use mathlib.Core.List.{List, [], ◌∷◌, ◌++◌}
 use lib.Dec.{ltb}
-use lib.ListN.{length, take, drop, replicate, length-replicate}
+use lib.ListN.{length, take, drop}
 use borrow.Author.Tests.{le-ltb, ltb-false}
 use borrow.Table.Steps.{cases as decide}
 use Rattle.std.specs.Prelude.{None, Some, Ok, Err}
@@ -16,6 +16,7 @@ use Rattle.rules.specs.Rules.{open_refusals}
 use Rattle.rules.specs.Tables.{Table, opened}
 use Rattle.rules.specs.declared.Refusal.{Refusal}
 use Rattle.rules.specs.declared.Terms.{Terms}
+use Rattle.rules.proofs.Laws.{opening_refuses}
 use Rattle.store.specs.Schedules.{decoded, entered}
 use Rattle.store.specs.Trials.{terms_of, traced, trial_refusal, trial_left, trial_outcome}
 use Rattle.casetext.specs.Reading.{Said, reading, told, Drafted}
@@ -35,25 +36,26 @@ unfolding entries_text traced entry_text
 entries_of k [] t rest number = refl
 entries_of k (e ∷ es) t rest number = rw (entries_of k es (entered k (decoded e) t).table rest (number + 1))
 
--- What a trial of these entries tells, in a row of zeros with five places for each.
-module _ (n k N : ℕ) {es items : List ℕ} (same : es ≡ items) (room : 5 * length items ≤ N) where
+-- What a trial of these entries tells, in a row with five places for each.
+module _ (n k : ℕ) (held : List ℕ) {es items : List ℕ} (same : es ≡ items) (room : 5 * length items ≤ length held) where
   -- such a row is not refused for its length
-  same_refusal : trial_outcome n k es (replicate N 0) ≡ first (open_refusals n (terms_of k))
+  same_refusal : trial_outcome n k es held ≡ first (open_refusals n (terms_of k))
   unfolding trial_outcome trial_refusal first
-  same_refusal = rw (same, length-replicate {A = ℕ} N 0, le-ltb N (5 * length items) room)
+  same_refusal = rw (same, le-ltb (length held) (5 * length items) room)
 
-  module _ {left : List ℕ} {outcome : Verdict}
-      (told : (left ≡ trial_left n k es (replicate N 0)) × (outcome ≡ trial_outcome n k es (replicate N 0)))
-    where
-      pub done_text : outcome ≡ Ok tt → said_text (accepted n k items) ≡ run_text es left
-      unfolding trial_outcome trial_left said_text opened_text run_text
-      done_text e =
-          let f : first (open_refusals n (terms_of k)) ≡ Ok tt = sym same_refusal ∙ sym told.1 ∙ e in
-          rw (told.0, same_refusal, f, ← same, entries_of (terms_of k) es (opened n) (drop (5 * length es) (replicate N 0)) 1)
+  module _ {left : List ℕ} {outcome : Verdict} (told : (left ≡ trial_left n k es held) × (outcome ≡ trial_outcome n k es held)) where
+    pub done_text : outcome ≡ Ok tt → said_text (accepted n k items) ≡ run_text es left
+    unfolding trial_outcome trial_left said_text opened_text run_text
+    done_text e =
+        let f : first (open_refusals n (terms_of k)) ≡ Ok tt = sym same_refusal ∙ sym told.1 ∙ e in
+        rw (told.0, same_refusal, f, ← same, entries_of (terms_of k) es (opened n) (drop (5 * length es) held) 1)
 
-      pub refused_text : {r : Refusal} → outcome ≡ Err r → said_text (accepted n k items) ≡ refusal_text (refusal_number r) (refusal_number r)
-      unfolding said_text opened_text
-      refused_text e = rw (sym same_refusal ∙ sym told.1 ∙ e)
+    pub refused_text : {r : Refusal} → outcome ≡ Err r
+        → (said_text (accepted n k items) ≡ refusal_text (refusal_number r) (refusal_number r)) × (refusal_number r ≤ 9)
+    unfolding said_text opened_text
+    refused_text {r} e =
+        let f : first (open_refusals n (terms_of k)) ≡ Err r = sym same_refusal ∙ sym told.1 ∙ e in
+        (rw f, omega (arith, opening_refuses n (terms_of k) r f))
 
 -- What the reader told is what is printed.
 told_refused : (r : Said) {f : Fault} → told r ≡ Err f → r ≡ refused f.refusal f.line

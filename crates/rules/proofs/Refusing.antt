@@ -1,21 +1,29 @@
--- Where nothing refuses a step, the next row's number fits a byte.
+-- Which session is refused; and where nothing refuses a step, the next row's number fits a byte.
 use mathlib.Core.Path.{◌≡◌}
-use mathlib.Core.Bool.{true}
+use mathlib.Core.Bool.{true, not}
 use Prim.Native.Nat.{ℕ, ◌≤◌}
 use native.Mathlib.Omega.{arith}
 use native.Mathlib.Nat.{le_trans}
-use borrow.Author.Tests.{not-false}
+use lib.Dec.{eqb}
+use borrow.Author.Tests.{eqb-true, eqb-false, not-false, le-leb}
 use Rattle.std.specs.Prelude.{Ok}
 use Rattle.rules.specs.Tests.{◌and◌, within, first}
-use Rattle.rules.specs.Places.{well_formed, rows}
+use Rattle.rules.specs.Places.{is_session, well_formed, rows}
 use Rattle.rules.specs.Rules.{reads, holds, refusals, step_refusals}
 use Rattle.rules.specs.declared.Claimant.{Claimant}
 use Rattle.rules.specs.declared.Terms.{Terms}
-use Rattle.rules.proofs.Choices.{both, within_true, none_given}
+use Rattle.rules.proofs.Choices.{decide, both, within_true, none_given}
 use Rattle.rules.proofs.Shapes.{Formed, formed, between}
 
+-- Of the numbers that a register can hold only 0 is no session.
+pub no_session : (s : ℕ) → s ≤ 65535 → not (is_session s) ≡ eqb s 0
+no_session s h =
+    decide (eqb s 0)
+    (λ e. rw (e, eqb-true s 0 e))
+    (λ e. rw (e, le-leb 1 s (omega (arith, eqb-false s 0 e)), le-leb s 65535 h))
+
 -- A well-formed record looks at a row of the table, or at none.
-other_low : (n : ℕ) (k : Terms) (c : Claimant) → well_formed n k c ≡ true → c.other ≤ n
+pub other_low : (n : ℕ) (k : Terms) (c : Claimant) → well_formed n k c ≡ true → c.other ≤ n
 unfolding rows
 other_low n k c e =
     let f = formed n k c e in

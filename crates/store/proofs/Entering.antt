@@ -86,6 +86,9 @@ entered_is k (Ok c) t s =
     rw (called_elsewhere s c e, turn_nowhere k c t s.opens e none)
     (record { table = written_nowhere t (caller c) blank e; answer = refl; own = sym none })))
 
+pub entered_on : {n : ℕ} {k : Terms} {t : Table} (e : Entry) → Sound n k t → Does e (turn_in k e t) t (entered k e t)
+entered_on {n} {k} {t} e s = entered_is k e t (rw s.length_is s)
+
 -- An entry keeps the table sound.
 pub sound_entered : {n : ℕ} {k : Terms} {t : Table} (e : Entry) → Sound n k t → Sound n k (entered k e t).table
 unfolding entered

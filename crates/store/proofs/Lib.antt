@@ -1,4 +1,5 @@
 -- The proofs of the store. First what says nothing of code, then that nothing else meets a contract; each function's own proof stands in its folder.
+pub mod Numbers
 pub mod Lowest
 pub mod Records
 pub mod Judging

@@ -16,7 +16,7 @@ use Rattle.store.specs.Schedules.{Entry, claimant_in, decoded, entered, ran, ans
 use Rattle.store.specs.Runs.{judged_of, run_refusal, ran_unless, running}
 use Rattle.store.specs.Trials.{five, traced}
 use Rattle.store.proofs.Lowest.{broken_is}
-use Rattle.store.proofs.Entering.{Does, named, entered_is, sound_entered}
+use Rattle.store.proofs.Entering.{Does, named, entered_on, sound_entered}
 
 module _ (k : Terms) (e : ℕ) where
   ran_push : (es : List ℕ) (t : Table) → ran k (es ++ e ∷ []) t ≡ (entered k (decoded e) (ran k es t)).table
@@ -54,7 +54,7 @@ module _ (k : Terms) (es : List ℕ) (t₀ : Table) (i : ℕ) (s : Sound (length
   before = ran k (take i es) t₀
 
   next : Does (decoded x) (turn_in k (decoded x) before) before (entered k (decoded x) before)
-  next = let z = ran_sound (take i es) t₀ s in entered_is k (decoded x) before (rw z.length_is z)
+  next = entered_on (decoded x) (ran_sound (take i es) t₀ s)
 
   went : Went k es t₀ i (written before (caller_of (decoded x)) (turn_in k (decoded x) before).after) (turn_in k (decoded x) before)
   went = record {
