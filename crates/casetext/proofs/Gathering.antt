@@ -85,7 +85,6 @@ module _ {n k : ℕ} {s : List ℕ} {from : ℕ} {draft : List ℕ} {at : ℕ} (
 
 -- A refused text leaves the row as it was.
 pub told_refused : (r : Said) {f : Fault} (held : List ℕ) → told r ≡ Err f → held ≡ row_after r held
-unfolding told row_after
 told_refused (accepted n k es) held e = cc
 told_refused (refused q line) held e = refl
 
