@@ -1,4 +1,4 @@
--- Facts on numbers that the functions by value rest on.
+-- Facts on the numbers of a trial and of a standing, for whoever argues about them; the check finds by itself what the functions by value need.
 use mathlib.Core.Path.{◌≡◌, sym, ◌∙◌}
 use Prim.Native.Nat.{ℕ, zero, suc, ◌*◌, ◌/◌, ◌<◌, ◌^◌}
 use native.Mathlib.Omega.{arith}
